@@ -1,0 +1,14 @@
+pub mod Cases
+pub mod PointLaws
+pub mod ScanLaws
+pub mod FillLaws
+pub mod CheckLaws
+pub mod Lengths
+pub mod WellFormed
+pub mod ReadLaws
+pub mod Places
+pub mod Sizes
+pub mod BytesParse
+pub mod ParseBytes
+pub mod RoundTrip
+pub mod Only

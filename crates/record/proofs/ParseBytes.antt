@@ -1,0 +1,229 @@
+-- Well-formed bytes are written back the same: bytes that parse are the bytes of the record that they parse to, and that record is valid.
+-- Assumes nothing.
+use Prim.Native.Nat.{ℕ, zero, suc, _+_, _*_, _^_, _≤_, _<_}
+use mathlib.Core.Path.{_≡_, refl, sym, ap, _∙_, subst}
+use mathlib.Core.Bool.{Bool, true, false, cond, _&&_}
+use mathlib.Core.Option.{Option, none, some}
+use mathlib.Core.List.{List, [], _∷_, _++_, append-assoc, append-nil}
+use native.Mathlib.Omega.{arith}
+use lib.ListN.{length, getD, take, drop, length-drop, length-append}
+use lib.Seq.{drop-length}
+use lib.Dec.{leb, ltb, eqb}
+use borrow.Author.Tests.{ltb-false, eqb-true, leb-true}
+use Rattle.words.specs.Word.{Bytes, word, bigEndian}
+use Rattle.words.specs.Laws.{word-fits}
+use Rattle.record.specs.declared.point.Point.{Point}
+use Rattle.record.specs.declared.point.Point.the-variants.{Read, Put, Delete}
+use Rattle.record.specs.declared.point.Scan.{Scan}
+use Rattle.record.specs.declared.checker.PointStep.the-variants as PointStep
+use Rattle.record.specs.declared.checker.ScanStep.the-variants as ScanStep
+use Rattle.record.specs.Record.{Rec, keyOf, payloadOf, pointBytes, pointsBytes, scanBytes, scansBytes, bodyBytes, bytesOf, Rising, Apart, Valid}
+use Rattle.record.specs.Parse.{Parsed, bad, took, stepPoint, stepScan, afterPoint, afterScan, parsePoints, parseScans, onTook, parse, headOk}
+use Rattle.record.proofs.Cases.{by-case, and-split, no-point, no-scan, no-some, took-or, after-point, after-scan}
+use Rattle.record.proofs.Places.{byte-at, word-at}
+use Rattle.record.proofs.Sizes.{sizeOf, point-size}
+
+-- A POINT
+
+-- what is known of a point that was found at a place
+record PointIs (low : ℕ) (bs : List ℕ) (at : ℕ) (p : Point) (size : ℕ) : Type 0 where
+  size-is : size ≡ length (pointBytes p)
+  in-bytes : drop at bs ≡ pointBytes p ++ drop (at + size) bs
+  low-le : low ≤ keyOf p
+  key-lt : keyOf p < 2 ^ 32
+  payload-lt : payloadOf p < 2 ^ 64
+
+point-is : (low : ℕ) (bs : List ℕ) (at : ℕ) (q p : Point) (k size : ℕ) → PointStep.Next q k ≡ PointStep.Next p size → PointIs low bs at q k → PointIs low bs at p size
+point-is low bs at q p k size e h =
+    let a : q ≡ p = cc in
+    let b : k ≡ size = cc in
+    subst (λ (x : Point). PointIs low bs at x size) a (subst (λ (n : ℕ). PointIs low bs at q n) b h)
+
+module _ (bs : List ℕ) (y : Bytes bs) (at : ℕ) where
+  -- a kind and a key
+  five : (kind : ℕ) → at + 5 ≤ length bs → getD bs at 0 ≡ kind → drop at bs ≡ kind ∷ (bigEndian 4 (word 4 bs (at + 1)) ++ drop (at + 5) bs)
+  five kind h d =
+      let i : at + 5 ≡ at + 1 + 4 = omega arith in
+      byte-at bs at (omega arith) ∙ ap (λ (x : ℕ). x ∷ drop (at + 1) bs) d ∙ ap (λ (l : List ℕ). kind ∷ l) (rw i (word-at bs (at + 1) 4 y (omega arith)))
+
+  -- a kind, a key and a payload
+  thirteen : (kind : ℕ) → at + 13 ≤ length bs → getD bs at 0 ≡ kind
+      → drop at bs ≡ kind ∷ ((bigEndian 4 (word 4 bs (at + 1)) ++ bigEndian 8 (word 8 bs (at + 5))) ++ drop (at + 13) bs)
+  thirteen kind h d =
+      let i : at + 13 ≡ at + 5 + 8 = omega arith in
+      let t : drop (at + 5) bs ≡ bigEndian 8 (word 8 bs (at + 5)) ++ drop (at + 13) bs = rw i (word-at bs (at + 5) 8 y (omega arith)) in
+      five kind (omega arith) d ∙ ap (λ (l : List ℕ). kind ∷ (bigEndian 4 (word 4 bs (at + 1)) ++ l)) t
+      ∙ ap (λ (l : List ℕ). kind ∷ l) (sym (append-assoc (bigEndian 4 (word 4 bs (at + 1))) (bigEndian 8 (word 8 bs (at + 5))) (drop (at + 13) bs)))
+
+  point-stands : (low : ℕ) (p : Point) (size : ℕ) → stepPoint low bs at ≡ PointStep.Next p size → PointIs low bs at p size
+  unfolding stepPoint
+  point-stands low p size e =
+      by-case (ltb (length bs) (at + 5)) (λ a. no-point (simp a at e)) λ a.
+      let l = ltb-false _ _ a in
+      let kl : word 4 bs (at + 1) < 2 ^ 32 = word-fits 4 bs (at + 1) y in
+      by-case (ltb (word 4 bs (at + 1)) low) (λ b. no-point (simp (a, b) at e)) λ b.
+      let ll = ltb-false _ _ b in
+      by-case (eqb (getD bs at 0) 1)
+      (λ d. point-is low bs at _ p _ size (simp (a, b, d) at e) (record {
+        size-is = sym (point-size (Read (word 4 bs (at + 1))));
+        in-bytes = five 1 l (eqb-true _ _ d);
+        low-le = ll;
+        key-lt = kl;
+        payload-lt = omega arith;
+      })) λ d.
+      by-case (eqb (getD bs at 0) 3)
+      (λ f. point-is low bs at _ p _ size (simp (a, b, d, f) at e) (record {
+        size-is = sym (point-size (Delete (word 4 bs (at + 1))));
+        in-bytes = five 3 l (eqb-true _ _ f);
+        low-le = ll;
+        key-lt = kl;
+        payload-lt = omega arith;
+      })) λ f.
+      by-case (eqb (getD bs at 0) 2)
+      (λ g. by-case (ltb (length bs) (at + 13))
+      (λ h. no-point (simp (a, b, d, f, g, h) at e))
+      (λ h. point-is low bs at _ p _ size (simp (a, b, d, f, g, h) at e) (record {
+        size-is = sym (point-size (Put (word 4 bs (at + 1)) (word 8 bs (at + 5))));
+        in-bytes = thirteen 2 (ltb-false _ _ h) (eqb-true _ _ g);
+        low-le = ll;
+        key-lt = kl;
+        payload-lt = word-fits 8 bs (at + 5) y;
+      })))
+      (λ g. no-point (simp (a, b, d, f, g) at e))
+
+-- a run of points
+record PointsAre (n low : ℕ) (bs : List ℕ) (at : ℕ) (ps : List Point) (e : ℕ) : Type 0 where
+  run : drop at bs ≡ pointsBytes ps ++ drop e bs
+  rising : Rising low ps
+  count : length ps ≡ n
+
+points-stand : (n low : ℕ) (bs : List ℕ) (at : ℕ) (ps : List Point) (e : ℕ) → Bytes bs → parsePoints n low bs at ≡ took ps e → PointsAre n low bs at ps e
+unfolding parsePoints
+points-stand zero low bs at ps e y h =
+    let a : ps ≡ [] = cc in
+    let b : at ≡ e = cc in
+    subst (λ (x : List Point). PointsAre zero low bs at x e) (sym a)
+    (subst (λ (x : ℕ). PointsAre zero low bs at [] x) b (record { run = refl; rising = tt; count = refl }))
+points-stand (suc n) low bs at ps e y h =
+    after-point (stepPoint low bs at) (λ p size. parsePoints n (keyOf p + 1) bs (at + size)) ps e h λ p size qs a b d.
+    let s : PointIs low bs at p size = point-stands bs y at low p size a in
+    let i : PointsAre n (keyOf p + 1) bs (at + size) qs e = points-stand n (keyOf p + 1) bs (at + size) qs e y b in
+    subst (λ (x : List Point). PointsAre (suc n) low bs at x e) (sym d) (record {
+      run = s .in-bytes ∙ ap (λ (l : List ℕ). pointBytes p ++ l) (i .run) ∙ sym (append-assoc (pointBytes p) (pointsBytes qs) (drop e bs));
+      rising = (s .low-le, s .key-lt, s .payload-lt, i .rising);
+      count = ap suc (i .count);
+    })
+
+-- A SCAN
+
+record ScanIs (low : ℕ) (bs : List ℕ) (at : ℕ) (c : Scan) : Type 0 where
+  in-bytes : drop at bs ≡ scanBytes c ++ drop (at + 8) bs
+  low-le : low ≤ c .low
+  high-le : c .low ≤ c .high
+  high-lt : c .high < 2 ^ 32
+
+module _ (bs : List ℕ) (y : Bytes bs) (at : ℕ) where
+  eight : at + 8 ≤ length bs → drop at bs ≡ (bigEndian 4 (word 4 bs at) ++ bigEndian 4 (word 4 bs (at + 4))) ++ drop (at + 8) bs
+  eight h =
+      let i : at + 8 ≡ at + 4 + 4 = omega arith in
+      word-at bs at 4 y (omega arith) ∙ ap (λ (l : List ℕ). bigEndian 4 (word 4 bs at) ++ l) (rw i (word-at bs (at + 4) 4 y (omega arith)))
+      ∙ sym (append-assoc (bigEndian 4 (word 4 bs at)) (bigEndian 4 (word 4 bs (at + 4))) (drop (at + 8) bs))
+
+  scan-stands : (low : ℕ) (c : Scan) → stepScan low bs at ≡ ScanStep.Next c → ScanIs low bs at c
+  unfolding stepScan
+  scan-stands low c e =
+      by-case (ltb (length bs) (at + 8)) (λ a. no-scan (simp a at e)) λ a.
+      by-case (ltb (word 4 bs at) low) (λ b. no-scan (simp (a, b) at e)) λ b.
+      by-case (ltb (word 4 bs (at + 4)) (word 4 bs at)) (λ d. no-scan (simp (a, b, d) at e)) λ d.
+      let z : ScanStep.Next (record { low = word 4 bs at; high = word 4 bs (at + 4) }) ≡ ScanStep.Next c = simp (a, b, d) at e in
+      let q : record { low = word 4 bs at; high = word 4 bs (at + 4) } ≡ c = cc in
+      subst (λ (x : Scan). ScanIs low bs at x) q (record {
+        in-bytes = eight (ltb-false _ _ a);
+        low-le = ltb-false _ _ b;
+        high-le = ltb-false _ _ d;
+        high-lt = word-fits 4 bs (at + 4) y;
+      })
+
+-- a run of scans
+record ScansAre (n low : ℕ) (bs : List ℕ) (at : ℕ) (cs : List Scan) (e : ℕ) : Type 0 where
+  run : drop at bs ≡ scansBytes cs ++ drop e bs
+  apart : Apart low cs
+  count : length cs ≡ n
+
+scans-stand : (n low : ℕ) (bs : List ℕ) (at : ℕ) (cs : List Scan) (e : ℕ) → Bytes bs → parseScans n low bs at ≡ took cs e → ScansAre n low bs at cs e
+unfolding parseScans
+scans-stand zero low bs at cs e y h =
+    let a : cs ≡ [] = cc in
+    let b : at ≡ e = cc in
+    subst (λ (x : List Scan). ScansAre zero low bs at x e) (sym a)
+    (subst (λ (x : ℕ). ScansAre zero low bs at [] x) b (record { run = refl; apart = tt; count = refl }))
+scans-stand (suc n) low bs at cs e y h =
+    after-scan (stepScan low bs at) (λ c. parseScans n (c .high + 1) bs (at + 8)) cs e h λ c ds a b d.
+    let s : ScanIs low bs at c = scan-stands bs y at low c a in
+    let i : ScansAre n (c .high + 1) bs (at + 8) ds e = scans-stand n (c .high + 1) bs (at + 8) ds e y b in
+    subst (λ (x : List Scan). ScansAre (suc n) low bs at x e) (sym d) (record {
+      run = s .in-bytes ∙ ap (λ (l : List ℕ). scanBytes c ++ l) (i .run) ∙ sym (append-assoc (scanBytes c) (scansBytes ds) (drop e bs));
+      apart = (s .low-le, s .high-le, s .high-lt, i .apart);
+      count = ap suc (i .count);
+    })
+
+-- THE WHOLE RECORD
+
+-- the record that bytes parse to keeps the rules, and the bytes are its own
+pub record Written (bs : List ℕ) (r : Rec) : Type 0 where
+  pub valid : Valid r
+  pub same : bs ≡ bytesOf r
+
+module _ (bs : List ℕ) (y : Bytes bs) (long : 9 ≤ length bs) (whole : word 2 bs 0 + 2 ≡ length bs) (version : getD bs 2 0 ≡ 1)
+    (few-points : getD bs 7 0 ≤ 64) (few-scans : getD bs 8 0 ≤ 8) (ps : List Point) (cs : List Scan) (at : ℕ)
+    (p : PointsAre (getD bs 7 0) 0 bs 9 ps at) (s : ScansAre (getD bs 8 0) 0 bs at cs (length bs)) where
+  r : Rec
+  r = record { snapshot = word 4 bs 3; points = ps; scans = cs }
+
+  from-nine : drop 9 bs ≡ pointsBytes ps ++ scansBytes cs
+  from-nine =
+      p .run ∙ ap (λ (l : List ℕ). pointsBytes ps ++ l) (s .run ∙ ap (λ (l : List ℕ). scansBytes cs ++ l) (drop-length bs) ∙ append-nil (scansBytes cs))
+
+  from-seven : drop 7 bs ≡ length ps ∷ length cs ∷ (pointsBytes ps ++ scansBytes cs)
+  from-seven =
+      byte-at bs 7 (omega arith) ∙ ap (λ (x : ℕ). x ∷ drop 8 bs) (sym (p .count)) ∙ ap (λ (l : List ℕ). length ps ∷ l)
+      (byte-at bs 8 (omega arith) ∙ ap (λ (x : ℕ). x ∷ drop 9 bs) (sym (s .count)) ∙ ap (λ (l : List ℕ). length cs ∷ l) from-nine)
+
+  from-two : drop 2 bs ≡ bodyBytes r
+  unfolding r
+  from-two =
+      byte-at bs 2 (omega arith) ∙ ap (λ (x : ℕ). x ∷ drop 3 bs) version ∙ ap (λ (l : List ℕ). 1 ∷ l)
+      (word-at bs 3 4 y (omega arith) ∙ ap (λ (l : List ℕ). bigEndian 4 (word 4 bs 3) ++ l) from-seven)
+
+  put-together : Written bs (record { snapshot = word 4 bs 3; points = ps; scans = cs })
+  unfolding r
+  put-together =
+      let n : length (bodyBytes r) ≡ word 2 bs 0 = ap length (sym from-two) ∙ omega (arith, length-drop 2 bs, whole) in
+      record {
+        valid = record {
+          snapshot-fits = word-fits 4 bs 3 y;
+          few-points = omega (arith, p .count);
+          few-scans = omega (arith, s .count);
+          rising = p .rising;
+          apart = s .apart;
+        };
+        same = word-at bs 0 2 y (omega arith) ∙ ap (λ (l : List ℕ). bigEndian 2 (word 2 bs 0) ++ l) from-two ∙ ap (λ (k : ℕ). bigEndian 2 k ++ bodyBytes r) (sym n);
+      }
+
+same-some : (P : Rec → Type 0) (q r : Rec) → some q ≡ some r → P q → P r
+same-some P q r e h = let z : q ≡ r = cc in subst P z h
+
+pub parse-bytes : (bs : List ℕ) (r : Rec) → Bytes bs → parse bs ≡ some r → Written bs r
+unfolding parse
+parse-bytes bs r y e =
+    by-case (headOk bs)
+    (λ k. took-or (parsePoints (getD bs 7 0) 0 bs 9) (λ x. no-some (simp (k, x) at e))
+    (λ ps at x. took-or (parseScans (getD bs 8 0) 0 bs at) (λ v. no-some (simp (k, x, v) at e))
+    (λ cs end v. by-case (eqb end (length bs))
+    (λ w. same-some (Written bs) (record { snapshot = word 4 bs 3; points = ps; scans = cs }) r (simp (k, x, v, w) at e)
+    (and-split _ _ k λ k1 k2. and-split _ _ k2 λ k3 k4. and-split _ _ k4 λ k5 k6. and-split _ _ k6 λ k7 k8.
+    put-together bs y (leb-true _ _ k1) (eqb-true _ _ k3) (eqb-true _ _ k5) (leb-true _ _ k7) (leb-true _ _ k8) ps cs at
+    (points-stand (getD bs 7 0) 0 bs 9 ps at y x)
+    (scans-stand (getD bs 8 0) 0 bs at cs (length bs) y (v ∙ ap (took cs) (eqb-true _ _ w)))))
+    (λ w. no-some (simp (k, x, v, w) at e)))))
+    (λ k. no-some (simp k at e))

@@ -1,0 +1,89 @@
+-- What `read` meets at each return: the tests that led there, and what the definition leaves in the lists.
+-- Assumes nothing.
+use Prim.Native.Nat.{ℕ, _+_, _≤_, _<_}
+use mathlib.Core.Path.{_≡_, refl, sym, ap, _∙_}
+use mathlib.Core.Bool.{Bool, true, false, cond, _&&_}
+use mathlib.Core.Option.{Option, none, some}
+use mathlib.Core.List.{List, [], _∷_, _++_, map}
+use native.Mathlib.Omega.{arith}
+use native.Mathlib.Nat.{zero-add}
+use lib.ListN.{length, getD, drop, length-map}
+use lib.Seq.{sets, sets-eq}
+use lib.Dec.{leb}
+use borrow.Author.Tests.{le-leb, lt-leb}
+use Rattle.words.specs.Word.{word}
+use Rattle.record.specs.declared.answer.Answer.{Answer}
+use Rattle.record.specs.declared.point.Point.{Point}
+use Rattle.record.specs.declared.point.Scan.{Scan}
+use Rattle.record.specs.declared.reader.Reading.{Reading}
+use Rattle.record.specs.Answer.{committed, malformed, outputShort}
+use Rattle.record.specs.Record.{kindOf, keyOf, payloadOf}
+use Rattle.record.specs.Parse.{parsePoints, parseScans, listOf, placeOf, parse, checkOf}
+use Rattle.record.specs.Reader.{Lists, lists, Outcome, outcome, readOf, roomy, filled, refused, front, lowOf, highOf}
+use Rattle.record.proofs.Lengths.{points-length, scans-length}
+use Rattle.record.proofs.WellFormed.{Good, good, refused-none}
+
+-- a run of stores at the front
+pub sets-front : (vs l : List ℕ) → length vs ≤ length l → sets l 0 vs ≡ front vs l
+sets-front vs l h = sets-eq vs l 0 (rw zero-add h) ∙ simp zero-add
+
+module _ (bs ks es xs ls hs : List ℕ) (a : Answer) (i : a ≡ checkOf (parse bs)) where
+  pub read-malformed : (r : Reading) → (a .number ≡ 0 → ⊥) → r ≡ refused malformed → outcome r (lists ks es xs ls hs) ≡ readOf (parse bs) (lists ks es xs ls hs)
+  unfolding readOf
+  read-malformed r n q = simp (refused-none bs a i n, q)
+
+  module _ (z : a .number ≡ 0) where
+    g : Good bs
+    g = good bs a i z
+
+    pls : length (listOf (parsePoints (getD bs 7 0) 0 bs 9)) ≡ getD bs 7 0
+    pls = points-length (getD bs 7 0) 0 bs 9 (g .points-took)
+
+    sls : length (listOf (parseScans (getD bs 8 0) 0 bs (placeOf (parsePoints (getD bs 7 0) 0 bs 9)))) ≡ getD bs 8 0
+    sls = scans-length (getD bs 8 0) 0 bs _ (g .scans-took)
+
+    pub read-kinds : (r : Reading) → length ks < getD bs 7 0 → r ≡ refused outputShort → outcome r (lists ks es xs ls hs) ≡ readOf (parse bs) (lists ks es xs ls hs)
+    unfolding readOf
+    read-kinds r b q = simp (g .is, q, pls, lt-leb _ _ b)
+
+    module _ (rk : getD bs 7 0 ≤ length ks) where
+      pub read-keys : (r : Reading) → length es < getD bs 7 0 → r ≡ refused outputShort → outcome r (lists ks es xs ls hs) ≡ readOf (parse bs) (lists ks es xs ls hs)
+      unfolding readOf
+      read-keys r b q = simp (g .is, q, pls, le-leb _ _ rk, lt-leb _ _ b)
+
+      module _ (re : getD bs 7 0 ≤ length es) where
+        pub read-payloads : (r : Reading) → length xs < getD bs 7 0 → r ≡ refused outputShort → outcome r (lists ks es xs ls hs) ≡ readOf (parse bs) (lists ks es xs ls hs)
+        unfolding readOf
+        read-payloads r b q = simp (g .is, q, pls, le-leb _ _ rk, le-leb _ _ re, lt-leb _ _ b)
+
+        module _ (rx : getD bs 7 0 ≤ length xs) where
+          pub read-lows : (r : Reading) → length ls < getD bs 8 0 → r ≡ refused outputShort → outcome r (lists ks es xs ls hs) ≡ readOf (parse bs) (lists ks es xs ls hs)
+          unfolding readOf
+          read-lows r b q = simp (g .is, q, pls, sls, le-leb _ _ rk, le-leb _ _ re, le-leb _ _ rx, lt-leb _ _ b)
+
+          module _ (rl : getD bs 8 0 ≤ length ls) where
+            pub read-highs : (r : Reading) → length hs < getD bs 8 0 → r ≡ refused outputShort → outcome r (lists ks es xs ls hs) ≡ readOf (parse bs) (lists ks es xs ls hs)
+            unfolding readOf
+            read-highs r b q = simp (g .is, q, pls, sls, le-leb _ _ rk, le-leb _ _ re, le-leb _ _ rx, le-leb _ _ rl, lt-leb _ _ b)
+
+            module _ (rh : getD bs 8 0 ≤ length hs) where
+              pub read-whole : (ks′ es′ xs′ ls′ hs′ : List ℕ) (snapshot at : ℕ)
+                  → ks′ ≡ sets ks 0 (map kindOf (listOf (parsePoints (getD bs 7 0) 0 bs 9)))
+                  → es′ ≡ sets es 0 (map keyOf (listOf (parsePoints (getD bs 7 0) 0 bs 9)))
+                  → xs′ ≡ sets xs 0 (map payloadOf (listOf (parsePoints (getD bs 7 0) 0 bs 9)))
+                  → at ≡ placeOf (parsePoints (getD bs 7 0) 0 bs 9)
+                  → ls′ ≡ sets ls 0 (map lowOf (listOf (parseScans (getD bs 8 0) 0 bs at)))
+                  → hs′ ≡ sets hs 0 (map highOf (listOf (parseScans (getD bs 8 0) 0 bs at)))
+                  → snapshot ≡ word 4 bs 3
+                  → outcome (record { answer = committed; snapshot = snapshot; points = getD bs 7 0; scans = getD bs 8 0 }) (lists ks′ es′ xs′ ls′ hs′)
+                  ≡ readOf (parse bs) (lists ks es xs ls hs)
+              unfolding readOf
+              read-whole ks′ es′ xs′ ls′ hs′ snapshot at ek ee ex ea el eh is =
+                  let ps : List Point = listOf (parsePoints (getD bs 7 0) 0 bs 9) in
+                  let cs : List Scan = listOf (parseScans (getD bs 8 0) 0 bs (placeOf (parsePoints (getD bs 7 0) 0 bs 9))) in
+                  let fk : ks′ ≡ front (map kindOf ps) ks = ek ∙ sets-front (map kindOf ps) ks (omega (arith, length-map ps kindOf, pls)) in
+                  let fe : es′ ≡ front (map keyOf ps) es = ee ∙ sets-front (map keyOf ps) es (omega (arith, length-map ps keyOf, pls)) in
+                  let fx : xs′ ≡ front (map payloadOf ps) xs = ex ∙ sets-front (map payloadOf ps) xs (omega (arith, length-map ps payloadOf, pls)) in
+                  let fl : ls′ ≡ front (map lowOf cs) ls = (rw ea at el) ∙ sets-front (map lowOf cs) ls (omega (arith, length-map cs lowOf, sls)) in
+                  let fh : hs′ ≡ front (map highOf cs) hs = (rw ea at eh) ∙ sets-front (map highOf cs) hs (omega (arith, length-map cs highOf, sls)) in
+                  simp (g .is, pls, sls, le-leb _ _ rk, le-leb _ _ re, le-leb _ _ rx, le-leb _ _ rl, le-leb _ _ rh, fk, fe, fx, fl, fh, is)

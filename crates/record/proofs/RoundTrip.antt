@@ -1,0 +1,86 @@
+-- The round trip on definitions: well-formed bytes are written back the same, and written records read back the same.
+-- Assumes nothing.
+use Prim.Native.Nat.{ℕ, zero, suc, _+_, _^_, _≤_, _<_}
+use mathlib.Core.Path.{_≡_, refl, sym, ap, _∙_}
+use mathlib.Core.Logic.{_↔_}
+use mathlib.Core.Option.{Option, none, some}
+use mathlib.Core.List.{List, [], _∷_, _++_}
+use native.Mathlib.Omega.{arith}
+use lib.ListN.{length, getD}
+use Rattle.words.specs.Word.{Bytes, word, bigEndian}
+use Rattle.words.specs.Laws.{word-bigEndian, bytes-append, bytes-bigEndian}
+use Rattle.record.specs.declared.point.Point.{Point}
+use Rattle.record.specs.declared.point.Point.the-variants.{Read, Put, Delete}
+use Rattle.record.specs.declared.point.Scan.{Scan}
+use Rattle.record.specs.Record.{Rec, pointBytes, pointsBytes, scanBytes, scansBytes, bodyBytes, bytesOf, Valid}
+use Rattle.record.specs.Parse.{parse}
+use Rattle.record.proofs.Sizes.{body-size, whole-size}
+use Rattle.record.proofs.BytesParse.{body-most, bytes-parse}
+use Rattle.record.proofs.ParseBytes.{Written, parse-bytes}
+
+-- a valid record's bytes parse to the record
+pub parse-bytesOf : (r : Rec) → Valid r → parse (bytesOf r) ≡ some r
+parse-bytesOf r v = bytes-parse r v
+
+-- bytes that parse are those of the record that they parse to, and it is valid
+pub bytesOf-parse : (bs : List ℕ) (r : Rec) → Bytes bs → parse bs ≡ some r → Valid r × (bs ≡ bytesOf r)
+bytesOf-parse bs r y e = let w : Written bs r = parse-bytes bs r y e in (w .valid, w .same)
+
+-- bytes parse to r exactly if r is valid and the bytes are r's
+pub parse-is : (bs : List ℕ) (r : Rec) → Bytes bs → (parse bs ≡ some r) ↔ (Valid r × (bs ≡ bytesOf r))
+parse-is bs r y = (λ e. bytesOf-parse bs r y e, λ h. ap parse (h .1) ∙ parse-bytesOf r (h .0))
+
+-- "The shortest record has 9 bytes, the longest .. 903 after the length, 905 in all", and the length field says so
+pub record Sized (r : Rec) : Type 0 where
+  pub least : 9 ≤ length (bytesOf r)
+  pub most : length (bytesOf r) ≤ 905
+  pub field-least : 7 ≤ word 2 (bytesOf r) 0
+  pub field-most : word 2 (bytesOf r) 0 ≤ 903
+  pub field : word 2 (bytesOf r) 0 + 2 ≡ length (bytesOf r)
+
+pub valid-size : (r : Rec) → Valid r → Sized r
+valid-size r v =
+    let f : word 2 (bytesOf r) 0 ≡ length (bodyBytes r) = word-bigEndian 2 (length (bodyBytes r)) (bodyBytes r) (omega (arith, body-most r v)) in
+    let b = body-size r in
+    let w = whole-size r in
+    let m = body-most r v in
+    record { least = omega arith; most = omega arith; field-least = omega arith; field-most = omega arith; field = omega arith }
+
+-- A RECORD'S BYTES ARE BYTES
+
+bytes-cons : (a : ℕ) (s : List ℕ) → a < 256 → Bytes s → Bytes (a ∷ s)
+bytes-cons a s h b = record { byte = below }
+  where
+    below : (i : ℕ) → getD (a ∷ s) i 0 < 256
+    below zero = h
+    below (suc i) = b .byte i
+
+no-bytes : Bytes []
+no-bytes = record { byte = λ i. omega arith }
+
+bytes-point : (p : Point) → Bytes (pointBytes p)
+bytes-point (Read k) = bytes-cons 1 (bigEndian 4 k) (omega arith) (bytes-bigEndian 4 k)
+bytes-point (Put k x) =
+    bytes-cons 2 (bigEndian 4 k ++ bigEndian 8 x) (omega arith) (bytes-append (bigEndian 4 k) (bigEndian 8 x) (bytes-bigEndian 4 k) (bytes-bigEndian 8 x))
+bytes-point (Delete k) = bytes-cons 3 (bigEndian 4 k) (omega arith) (bytes-bigEndian 4 k)
+
+bytes-points : (ps : List Point) → Bytes (pointsBytes ps)
+bytes-points [] = no-bytes
+bytes-points (p ∷ ps) = bytes-append (pointBytes p) (pointsBytes ps) (bytes-point p) (bytes-points ps)
+
+bytes-scans : (cs : List Scan) → Bytes (scansBytes cs)
+bytes-scans [] = no-bytes
+bytes-scans (c ∷ cs) =
+    bytes-append (scanBytes c) (scansBytes cs)
+    (bytes-append (bigEndian 4 (c .low)) (bigEndian 4 (c .high)) (bytes-bigEndian 4 (c .low)) (bytes-bigEndian 4 (c .high))) (bytes-scans cs)
+
+-- each number in a valid record's bytes is a byte
+pub valid-bytes : (r : Rec) → Valid r → Bytes (bytesOf r)
+valid-bytes r v =
+    let tail : List ℕ = pointsBytes (r .points) ++ scansBytes (r .scans) in
+    let counts : List ℕ = length (r .points) ∷ length (r .scans) ∷ tail in
+    let b : Bytes counts =
+    bytes-cons (length (r .points)) (length (r .scans) ∷ tail) (omega (arith, v .few-points)) (bytes-cons (length (r .scans)) tail (omega (arith, v .few-scans))
+    (bytes-append (pointsBytes (r .points)) (scansBytes (r .scans)) (bytes-points (r .points)) (bytes-scans (r .scans)))) in
+    bytes-append (bigEndian 2 (length (bodyBytes r))) (bodyBytes r) (bytes-bigEndian 2 (length (bodyBytes r)))
+    (bytes-cons 1 (bigEndian 4 (r .snapshot) ++ counts) (omega arith) (bytes-append (bigEndian 4 (r .snapshot)) counts (bytes-bigEndian 4 (r .snapshot)) b))

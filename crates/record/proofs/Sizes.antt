@@ -1,0 +1,58 @@
+-- How many bytes points, scans and records have.
+-- Assumes nothing.
+use Prim.Native.Nat.{ℕ, zero, suc, _+_, _*_, _≤_, _<_}
+use mathlib.Core.Path.{_≡_, refl, sym, ap, _∙_}
+use mathlib.Core.List.{List, [], _∷_, _++_}
+use native.Mathlib.Omega.{arith}
+use lib.ListN.{length, length-append}
+use Rattle.words.specs.Word.{bigEndian}
+use Rattle.words.specs.Laws.{length-bigEndian}
+use Rattle.record.specs.declared.point.Point.{Point}
+use Rattle.record.specs.declared.point.Point.the-variants.{Read, Put, Delete}
+use Rattle.record.specs.declared.point.Scan.{Scan}
+use Rattle.record.specs.Record.{Rec, pointBytes, pointsBytes, scanBytes, scansBytes, bodyBytes, bytesOf}
+
+-- "5 or 13 each"
+abbrev pub sizeOf : Point → ℕ
+sizeOf (Read k) = 5
+sizeOf (Put k x) = 13
+sizeOf (Delete k) = 5
+
+pub point-size : (p : Point) → length (pointBytes p) ≡ sizeOf p
+point-size (Read k) = omega (arith, length-bigEndian 4 k)
+point-size (Put k x) = omega (arith, length-append (bigEndian 4 k) (bigEndian 8 x), length-bigEndian 4 k, length-bigEndian 8 x)
+point-size (Delete k) = omega (arith, length-bigEndian 4 k)
+
+pub size-least : (p : Point) → 5 ≤ sizeOf p
+size-least (Read k) = omega arith
+size-least (Put k x) = omega arith
+size-least (Delete k) = omega arith
+
+pub size-most : (p : Point) → sizeOf p ≤ 13
+size-most (Read k) = omega arith
+size-most (Put k x) = omega arith
+size-most (Delete k) = omega arith
+
+pub points-size-most : (ps : List Point) → length (pointsBytes ps) ≤ 13 * length ps
+points-size-most [] = omega arith
+points-size-most (p ∷ ps) = omega (arith, length-append (pointBytes p) (pointsBytes ps), point-size p, size-most p, points-size-most ps)
+
+pub scan-bytes-size : (c : Scan) → length (scanBytes c) ≡ 8
+scan-bytes-size c = omega (arith, length-append (bigEndian 4 (c .low)) (bigEndian 4 (c .high)), length-bigEndian 4 (c .low), length-bigEndian 4 (c .high))
+
+pub scans-bytes-size : (cs : List Scan) → length (scansBytes cs) ≡ 8 * length cs
+scans-bytes-size [] = refl
+scans-bytes-size (c ∷ cs) = omega (arith, length-append (scanBytes c) (scansBytes cs), scan-bytes-size c, scans-bytes-size cs)
+
+-- seven bytes, the points and the scans stand after the length
+pub body-size : (r : Rec) → length (bodyBytes r) ≡ 7 + (length (pointsBytes (r .points)) + length (scansBytes (r .scans)))
+body-size r =
+    omega (
+      arith,
+      length-append (bigEndian 4 (r .snapshot)) (length (r .points) ∷ length (r .scans) ∷ (pointsBytes (r .points) ++ scansBytes (r .scans))),
+      length-bigEndian 4 (r .snapshot),
+      length-append (pointsBytes (r .points)) (scansBytes (r .scans)),
+    )
+
+pub whole-size : (r : Rec) → length (bytesOf r) ≡ length (bodyBytes r) + 2
+whole-size r = omega (arith, length-append (bigEndian 2 (length (bodyBytes r))) (bodyBytes r), length-bigEndian 2 (length (bodyBytes r)))

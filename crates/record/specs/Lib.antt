@@ -1,0 +1,4 @@
+pub mod Answer
+pub mod Record
+pub mod Parse
+pub mod Reader

@@ -1,0 +1,67 @@
+-- What the reader answers, and what it leaves in the five lists that it is lent.
+-- Assumes nothing: these are definitions.
+use Prim.Native.Nat.{ℕ}
+use mathlib.Core.Bool.{Bool, cond, _&&_}
+use mathlib.Core.Option.{Option, none, some}
+use mathlib.Core.List.{List, _++_, map}
+use lib.ListN.{length, drop}
+use lib.Dec.{leb}
+use Rattle.record.specs.declared.answer.Answer.{Answer}
+use Rattle.record.specs.declared.point.Scan.{Scan}
+use Rattle.record.specs.declared.reader.Reading.{Reading}
+use Rattle.record.specs.Answer.{committed, malformed, outputShort}
+use Rattle.record.specs.Record.{Rec, kindOf, keyOf, payloadOf}
+
+abbrev pub lowOf : Scan → ℕ
+lowOf c = c .low
+
+abbrev pub highOf : Scan → ℕ
+highOf c = c .high
+
+-- the points as three lists and the scans as two
+pub record Lists : Type 0 where
+  pub kinds : List ℕ
+  pub keys : List ℕ
+  pub payloads : List ℕ
+  pub lows : List ℕ
+  pub highs : List ℕ
+
+abbrev pub lists : List ℕ → List ℕ → List ℕ → List ℕ → List ℕ → Lists
+lists ks es xs ls hs = record { kinds = ks; keys = es; payloads = xs; lows = ls; highs = hs }
+
+-- what a call gives back and what it leaves in the lists
+pub record Outcome : Type 0 where
+  pub reading : Reading
+  pub left : Lists
+
+abbrev pub outcome : Reading → Lists → Outcome
+outcome r l = record { reading = r; left = l }
+
+-- vs at the front of l, and the rest of l as before
+abbrev pub front : List ℕ → List ℕ → List ℕ
+front vs l = vs ++ drop (length vs) l
+
+-- each list has room for what goes into it
+abbrev pub roomy : Rec → Lists → Bool
+roomy r l =
+    leb (length (r .points)) (length (l .kinds)) && (leb (length (r .points)) (length (l .keys))
+    && (leb (length (r .points)) (length (l .payloads))
+    && (leb (length (r .scans)) (length (l .lows)) && leb (length (r .scans)) (length (l .highs)))))
+
+-- "all three 0 on a refusal"
+abbrev pub refused : Answer → Reading
+refused a = record { answer = a; snapshot = 0; points = 0; scans = 0 }
+
+-- the lists with the record at their fronts
+abbrev pub filled : Rec → Lists → Lists
+filled r l =
+    lists (front (map kindOf (r .points)) (l .kinds)) (front (map keyOf (r .points)) (l .keys)) (front (map payloadOf (r .points)) (l .payloads))
+    (front (map lowOf (r .scans)) (l .lows)) (front (map highOf (r .scans)) (l .highs))
+
+-- "4, then 8 if a list is too short, both changing nothing, then 0 with the snapshot and both counts"
+unfoldable pub readOf : Option Rec → Lists → Outcome
+readOf none l = outcome (refused malformed) l
+readOf (some r) l =
+    cond (roomy r l)
+    (outcome (record { answer = committed; snapshot = r .snapshot; points = length (r .points); scans = length (r .scans) }) (filled r l))
+    (outcome (refused outputShort) l)
