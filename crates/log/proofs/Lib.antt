@@ -1,0 +1,9 @@
+mod Cases
+mod Handed
+pub mod Stands
+pub mod Same
+pub mod Walk
+pub mod Step
+pub mod CutLog
+pub mod Between
+pub mod Only

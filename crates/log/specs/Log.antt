@@ -1,0 +1,80 @@
+-- Document 01, "The log": what stands at a place of a log, and what is handed out there.
+-- Assumes nothing: these are definitions.
+use Prim.Native.Nat.{ℕ, _+_, _-_}
+use mathlib.Core.Path.{_≡_}
+use mathlib.Core.Bool.{Bool, cond, not, _&&_, _||_}
+use mathlib.Core.Option.{Option, none, some}
+use mathlib.Core.List.{List, []}
+use lib.ListN.{length, take, drop}
+use lib.Dec.{ltb, eqb}
+use denote.Ref.{RefT, now, ptr}
+use Rattle.words.specs.Word.{word}
+use Rattle.record.specs.declared.answer.Answer.{Answer}
+use Rattle.record.specs.Answer.{brokenLog}
+use Rattle.log.specs.declared.found.Cut.{Cut}
+use Rattle.log.specs.declared.found.Cut.the-variants.{End, Broken, Record}
+
+-- the least and the largest length that a record may say: "a length below 7 or above 903" is broken
+abbrev pub minLength : ℕ
+minLength = 7
+
+abbrev pub maxLength : ℕ
+maxLength = 903
+
+-- the length that the two bytes at a place say
+abbrev pub lengthAt : List ℕ → ℕ → ℕ
+lengthAt log place = word 2 log place
+
+-- the place past the record at a place: its two bytes of length, and as many more as they say
+abbrev pub pastAt : List ℕ → ℕ → ℕ
+pastAt log place = place + 2 + lengthAt log place
+
+-- the place is exactly at the end
+abbrev pub endsAt : List ℕ → ℕ → Bool
+endsAt log place = eqb place (length log)
+
+-- "with fewer than 2 bytes left, a place past the end, a length below 7 or above 903, or a record running past the end";
+-- said of a place that is not exactly at the end
+abbrev pub brokenAt : List ℕ → ℕ → Bool
+brokenAt log place =
+    ltb (length log) (place + 2) || ltb (length log) place || ltb (lengthAt log place) minLength || ltb maxLength (lengthAt log place)
+    || ltb (length log) (pastAt log place)
+
+-- "exactly at the end, it says "end""; then broken; "otherwise it hands out that part and its place moves past it"
+unfoldable pub cutAt : List ℕ → ℕ → Cut
+cutAt log place = cond (endsAt log place) End (cond (brokenAt log place) Broken (Record (pastAt log place)))
+
+-- the paper's number for each case: a broken log is 10; "end" and a record handed out have no number
+abbrev pub answerOf : Cut → Option Answer
+answerOf End = none
+answerOf Broken = some brokenLog
+answerOf (Record next) = none
+
+-- what `cut` promises of its answer: the case that stands at the place, and the paper's number for it
+pub record CutIs (log : List ℕ) (place : ℕ) (r : Cut) : Type 0 where
+  pub case : r ≡ cutAt log place
+  pub number : answerOf r ≡ cond (not (endsAt log place) && brokenAt log place) (some brokenLog) none
+
+-- the part handed out: "with "end" or 10 .. empty", otherwise the bytes from the place to the place past the record
+abbrev pub partOf : Cut → List ℕ → ℕ → List ℕ
+partOf End log place = []
+partOf Broken log place = []
+partOf (Record next) log place = take (next - place) (drop place log)
+
+-- where the part handed out starts, counted from the log's first byte: a record starts at its place, the empty part at 0
+abbrev pub startOf : Cut → ℕ → ℕ
+startOf End place = 0
+startOf Broken place = 0
+startOf (Record next) place = place
+
+-- the slice r is the part handed out at a place of the lent log: its bytes, and where it lies, in the log's own memory
+pub record HandedOut (log : RefT (List ℕ)) (place : ℕ) (r : RefT (List ℕ)) : Type 0 where
+  pub bytes : now r ≡ partOf (cutAt (now log) place) (now log) place
+  pub block : ptr r .0 ≡ ptr log .0
+  pub start : ptr r .1 ≡ ptr log .1 + startOf (cutAt (now log) place) place
+
+-- the place afterwards: "with "end" or 10 .. unchanged", otherwise past the record
+abbrev pub placeAfter : Cut → ℕ → ℕ
+placeAfter End place = place
+placeAfter Broken place = place
+placeAfter (Record next) place = next

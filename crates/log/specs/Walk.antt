@@ -1,0 +1,47 @@
+-- Document 01, "The log": the walk over a whole log, and what becomes of it when the log is cut.
+-- Assumes nothing: these are definitions.
+use Prim.Native.Nat.{ℕ, _+_, _≤_, _<_}
+use mathlib.Core.Path.{_≡_}
+use mathlib.Core.List.{List, [], _∷_, _++_}
+use lib.ListN.{length, take}
+use Rattle.log.specs.declared.found.Cut.{Cut}
+use Rattle.log.specs.declared.found.Cut.the-variants.{End, Broken, Record}
+use Rattle.log.specs.Log.{cutAt, partOf, lengthAt, minLength, maxLength}
+
+-- the walk over a log from a place on: the parts handed out, in order, and how it ends, with "end" or broken
+pub data Walks (log : List ℕ) : ℕ → List (List ℕ) → Cut → Type 0 where
+  ends : {place : ℕ} → cutAt log place ≡ End → Walks log place [] End
+  breaks : {place : ℕ} → cutAt log place ≡ Broken → Walks log place [] Broken
+  hands : {place next : ℕ} {parts : List (List ℕ)} {last : Cut} → cutAt log place ≡ Record next → Walks log next parts last
+      → Walks log place (partOf (Record next) log place ∷ parts) last
+
+-- the parts back to back
+abbrev pub joined : List (List ℕ) → List ℕ
+joined [] = []
+joined (part ∷ parts) = part ++ joined parts
+
+-- a part as the log rule hands it out: as many bytes as its length says and the two of the length itself, the length from 7 to 903
+pub record Sized (part : List ℕ) : Type 0 where
+  pub size : length part ≡ lengthAt part 0 + 2
+  pub least : minLength ≤ lengthAt part 0
+  pub most : lengthAt part 0 ≤ maxLength
+
+-- each of the parts is so
+pub data AllSized : List (List ℕ) → Type 0 where
+  no-part : AllSized []
+  one-more : {part : List ℕ} {parts : List (List ℕ)} → Sized part → AllSized parts → AllSized (part ∷ parts)
+
+-- "Cut a log that walks to "end" at any byte": the log's first n bytes, where the whole log hands out `parts`
+pub record CutLog (log : List ℕ) (parts : List (List ℕ)) (n : ℕ) : Type 0 where
+  -- "the records wholly before the cut", and the others
+  pub before : List (List ℕ)
+  pub after : List (List ℕ)
+  pub all : parts ≡ before ++ after
+  pub wholly : length (joined before) ≤ n
+  pub first-is-not : (part : List ℕ) (rest : List (List ℕ)) → after ≡ part ∷ rest → n < length (joined before) + length part
+  -- those before the cut are handed out as in the uncut log
+  pub last : Cut
+  pub walks : Walks (take n log) 0 before last
+  -- "then "end" if the cut is between records or at either end of the log, else 10"
+  pub between : length (joined before) ≡ n → last ≡ End
+  pub amid : (length (joined before) ≡ n → ⊥) → last ≡ Broken
