@@ -1,0 +1,66 @@
+-- What demands 2 and 3 say of a log, in words that their statements use.
+-- Assumes nothing: these are definitions.
+use Prim.Native.Nat.{ℕ, _-_, _≤_, _<_}
+use mathlib.Core.Path.{_≡_}
+use mathlib.Core.Logic.{_⊎_}
+use mathlib.Core.List.{List, [], _∷_, List·Memᴰ as Mem}
+use mathlib.Core.Option.{Option, some}
+use lib.Dec.{eqb}
+use Rattle.record.specs.Record.{Rec, keyOf}
+use Rattle.record.specs.declared.point.Point.{Point}
+use Rattle.record.specs.declared.point.Scan.{Scan}
+use Rattle.rules.specs.Lists.{if_then_else_}
+use Rattle.rules.specs.State.{Entry, State, fresh, lastPosition}
+use Rattle.rules.specs.Verdict.{conflict, count, verdict, next}
+use Rattle.rules.specs.Log.{Log, after, commits}
+use Rattle.rules.specs.Tree.{looksOf}
+use Rattle.rules.specs.Refresh.{Refreshed, done, refused, refresh}
+
+-- DEMAND 2
+
+-- key k is named by a point or covered by a scan
+abbrev pub Reaches : Rec → ℕ → Type 0
+Reaches r k = ((q : Point) × Mem q (r .points) × (keyOf q ≡ k)) ⊎ ((c : Scan) × Mem c (r .scans) × (c .low ≤ k) × (k ≤ c .high))
+
+-- a committed record of the log wrote a key that r names or scans, at s + 1 to p
+abbrev pub Beaten : ℕ → ℕ → Log → Rec → Type 0
+Beaten N Z log r = (e : Entry) × Mem e (commits (fresh N Z) log) × (r .snapshot < e .position) × (e .position ≤ after (fresh N Z) log .p) × Reaches r (e .key)
+
+-- record m passes every check of the table where it stands, after this log from a fresh pool
+pub record Passes (N Z : ℕ) (log : Log) (m : Option Rec) : Type 0 where
+  pub position-left : after (fresh N Z) log .p < lastPosition
+  pub r : Rec
+  pub well-formed : m ≡ some r
+  pub not-ahead : r .snapshot ≤ after (fresh N Z) log .p
+  pub not-too-old : after (fresh N Z) log .p - r .snapshot ≤ Z
+  pub no-conflict : Beaten N Z log r → ⊥
+  pub room : count (after (fresh N Z) log) (r .points) ≤ N
+
+-- the last write of key k in a list of writes, o if there is none
+abbrev pub lastWrite : ℕ → Option Entry → List Entry → Option Entry
+lastWrite k o [] = o
+lastWrite k o (e ∷ es) = lastWrite k (if eqb (e .key) k then some e else o) es
+
+-- DEMAND 3
+
+-- s, then the stops, then p, "in log order"
+abbrev pub InOrder : ℕ → List ℕ → ℕ → Type 0
+InOrder s [] p = s ≤ p
+InOrder s (q ∷ qs) p = (s ≤ q) × InOrder q qs p
+
+-- the last stop, where q is the first
+abbrev pub lastOf : ℕ → List ℕ → ℕ
+lastOf q [] = q
+lastOf q (q′ ∷ qs) = lastOf q′ qs
+
+-- "melding the result gives the original's answer and state in no more looks"
+pub record MeldsAs (S : State) (r′ r : Rec) : Type 0 where
+  pub answer : verdict S (some r′) ≡ verdict S (some r)
+  pub state : next S (some r′) ≡ next S (some r)
+  pub looks-le : looksOf S (some r′) ≤ looksOf S (some r)
+
+-- the two outcomes of a chain c of refreshes of r, the last at L, where r would be melded at S: "Either a refresh says conflict, and so
+-- does melding the original at that place; or the chain equals one refresh at its last stop, and melding the result" is melding r
+pub data Outcome (S L : State) (r : Rec) (c : Refreshed) : Type 0 where
+  stopped : c ≡ refused conflict → verdict S (some r) ≡ conflict → Outcome S L r c
+  carried : (r′ : Rec) → c ≡ done r′ → refresh L (some r) ≡ done r′ → MeldsAs S r′ r → Outcome S L r c

@@ -1,0 +1,10 @@
+pub mod Lists
+pub mod State
+pub mod Footprint
+pub mod Verdict
+pub mod Log
+pub mod Tree
+pub mod Lookup
+pub mod Refresh
+pub mod Demands
+pub mod Table

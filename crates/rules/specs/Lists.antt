@@ -1,0 +1,27 @@
+-- The choice by a test, and three words on lists, that the rules are said with.
+-- Assumes nothing: these are definitions.
+use Prim.Native.Nat.{ℕ}
+use mathlib.Core.Bool.{Bool, true, false, _||_}
+use mathlib.Core.List.{List, [], _∷_}
+use lib.Dec.{eqb}
+
+-- the first if the test passes, else the second
+infixr 5 if_then_else_
+abbrev pub if_then_else_ : {A : Type 0} → Bool → A → A → A
+if_then_else_ true a b = a
+if_then_else_ false a b = b
+
+-- one of them passes the test
+abbrev pub any : {A : Type 0} → (A → Bool) → List A → Bool
+any f [] = false
+any f (x ∷ xs) = f x || any f xs
+
+-- those that pass the test
+abbrev pub keep : {A : Type 0} → (A → Bool) → List A → List A
+keep f [] = []
+keep f (x ∷ xs) = if f x then x ∷ keep f xs else keep f xs
+
+-- each number once
+abbrev pub distinct : List ℕ → List ℕ
+distinct [] = []
+distinct (k ∷ ks) = if any (eqb k) ks then distinct ks else k ∷ distinct ks

@@ -1,0 +1,59 @@
+-- A log of records, melded one after the other, and who wrote what in it.
+-- Assumes nothing: these are definitions.
+use Prim.Native.Nat.{ℕ, _+_}
+use mathlib.Core.Bool.{Bool, true, false, _&&_}
+use mathlib.Core.List.{List, [], _∷_, _++_, List·Memᴰ as Mem}
+use mathlib.Core.Option.{Option, some}
+use lib.Dec.{leb}
+use lib.ListN.{take}
+use Rattle.record.specs.Record.{Rec, Valid}
+use Rattle.record.specs.declared.point.Point.{Point}
+use Rattle.record.specs.declared.point.Scan.{Scan}
+use Rattle.rules.specs.Lists.{if_then_else_, any}
+use Rattle.rules.specs.State.{Entry, State, fresh}
+use Rattle.rules.specs.Footprint.{writesOf}
+use Rattle.rules.specs.Verdict.{Verdict, committed, conflict, tooOld, noRoom, malformed, ahead, usedUp, hits, verdict, pointsOf, next}
+
+-- each record as it parses, none where it is malformed
+abbrev pub Log : Type 0
+Log = List (Option Rec)
+
+-- what parses keeps the rules of a record
+abbrev pub WellFormed : Log → Type 0
+WellFormed log = (r : Rec) → Mem (some r) log → Valid r
+
+-- the state after a log
+unfoldable pub after : State → Log → State
+after S [] = S
+after S (m ∷ ms) = after (next S m) ms
+
+-- the state after the first q records of a log from a fresh pool
+abbrev pub stateAt : ℕ → ℕ → Log → ℕ → State
+stateAt N Z log q = after (fresh N Z) (take q log)
+
+-- only a committed record is a writer
+abbrev pub isWriter : Verdict → Bool
+isWriter committed = true
+isWriter conflict = false
+isWriter tooOld = false
+isWriter noRoom = false
+isWriter malformed = false
+isWriter ahead = false
+isWriter usedUp = false
+
+-- what the record at v wrote, by its verdict
+abbrev pub wrote : ℕ → List Point → Verdict → List Entry
+wrote v ps a = if isWriter a then writesOf v ps else []
+
+-- the puts and deletes of the committed records, in log order
+unfoldable pub commits : State → Log → List Entry
+commits S [] = []
+commits S (m ∷ ms) = wrote (S .p + 1) (pointsOf m) (verdict S m) ++ commits (next S m) ms
+
+-- a write of a key named or scanned, at s + 1 to p
+abbrev pub between : ℕ → ℕ → List Scan → Entry → Bool
+between s p f e = hits s f e && leb (e .position) p
+
+-- row 1: "some key named by any point or covered by a scan was written by a committed record at s + 1 to p"
+unfoldable pub writtenIn : ℕ → ℕ → List Scan → List Entry → Bool
+writtenIn s p f es = any (between s p f) es

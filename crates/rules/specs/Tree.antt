@@ -1,0 +1,125 @@
+-- Document 01, "The tree" and "Looks".
+-- Assumes nothing: these are definitions.
+use Prim.Native.Nat.{ℕ, zero, suc, _+_, _^_, max, min}
+use mathlib.Core.Bool.{Bool, true, false, _&&_, _||_}
+use mathlib.Core.List.{List, [], _∷_, _++_}
+use mathlib.Core.Option.{Option, none, some}
+use lib.Dec.{ltb, leb}
+use Rattle.record.specs.Record.{Rec}
+use Rattle.record.specs.declared.point.Scan.{Scan}
+use Rattle.rules.specs.Lists.{if_then_else_, keep}
+use Rattle.rules.specs.State.{Entry, State, isLive, lastPosition}
+use Rattle.rules.specs.Footprint.{reach, meets}
+use Rattle.rules.specs.Verdict.{Verdict, committed, conflict, tooOld, noRoom, malformed, ahead, usedUp, verdict}
+
+-- "payloads are in leaves only"; node h low l r splits at bit h − 1 and covers low .. low + 2 ^ h − 1
+pub data Tree : Type 0 where
+  empty : Tree
+  leaf : Entry → Tree
+  node : ℕ → ℕ → Tree → Tree → Tree
+
+-- it holds nothing
+abbrev pub isEmpty : Tree → Bool
+isEmpty empty = true
+isEmpty (leaf e) = false
+isEmpty (node h low l r) = false
+
+-- a node stands only where both sides hold something
+abbrev pub join : ℕ → ℕ → Tree → Tree → Tree
+join h low l r = if isEmpty l then r else if isEmpty r then l else node h low l r
+
+-- an entry with bit h 0, among those that share all bits above it: middle is the first key there with bit h 1
+abbrev pub below : ℕ → Entry → Bool
+below middle e = ltb (e .key) middle
+
+-- an entry with bit h 1
+abbrev pub from : ℕ → Entry → Bool
+from middle e = leb middle (e .key)
+
+-- "inner nodes stand exactly where kept keys first differ, bit 31 down; keys with that bit 0 are on the left":
+-- the tree of entries whose keys lie in low .. low + 2 ^ h − 1. A state's tree is treeOf 32 0 of what is kept
+unfoldable pub treeOf : ℕ → ℕ → List Entry → Tree
+treeOf zero low [] = empty
+treeOf zero low (e ∷ es) = leaf e
+treeOf (suc h) low [] = empty
+treeOf (suc h) low (e ∷ []) = leaf e
+treeOf (suc h) low (e ∷ e′ ∷ es) =
+    let middle = low + 2 ^ h in
+    join (suc h) low
+    (treeOf h low (keep (below middle) (e ∷ e′ ∷ es)))
+    (treeOf h middle (keep (from middle) (e ∷ e′ ∷ es)))
+
+-- the leaves, from the left
+unfoldable pub entries : Tree → List Entry
+entries empty = []
+entries (leaf e) = e ∷ []
+entries (node h low l r) = entries l ++ entries r
+
+-- "A node's newest is the largest write position in its subtree"
+unfoldable pub newest : Tree → ℕ
+newest empty = 0
+newest (leaf e) = e .position
+newest (node h low l r) = max (newest l) (newest r)
+
+-- the smallest position of a tombstone in a subtree, the last position if there is none: a pool keeps it to find old tombstones by
+unfoldable pub oldest : Tree → ℕ
+oldest empty = lastPosition
+oldest (leaf e) = if isLive (e .payload) then lastPosition else e .position
+oldest (node h low l r) = min (oldest l) (oldest r)
+
+-- the first number that a node covers: "A leaf covers its key. An inner node covers every 32-bit number that shares its
+-- keys' common leading bits"
+abbrev pub first : Tree → ℕ
+first empty = 0
+first (leaf e) = e .key
+first (node h low l r) = low
+
+-- the first number past what it covers
+abbrev pub past : Tree → ℕ
+past empty = 0
+past (leaf e) = e .key + 1
+past (node h low l r) = low + 2 ^ h
+
+-- LOOKS
+
+-- whether the search found the conflict, and how many nodes it looked at
+pub record Walked : Type 0 where
+  pub found : Bool
+  pub looks : ℕ
+
+-- "Stop there if its newest is ≤ s or nothing the record names or scans lies in what it covers": otherwise go on
+abbrev pub goesOn : ℕ → List Scan → Tree → Bool
+goesOn s f t = ltb s (newest t) && meets f (first t) (past t)
+
+-- "Looking at a node counts 1"
+abbrev pub stop : Walked
+stop = record { found = false; looks = 1 }
+
+-- "Otherwise look at the left child, then, if no conflict was found there, the right"
+abbrev pub descend : Walked → Walked → Walked
+descend l r = record { found = l .found || r .found; looks = if l .found then 1 + l .looks else 1 + l .looks + r .looks }
+
+-- "A leaf that isn't stopped at is the conflict, and the search ends"
+unfoldable pub walk : ℕ → List Scan → Tree → Walked
+walk s f empty = record { found = false; looks = 0 }
+walk s f (leaf e) = record { found = goesOn s f (leaf e); looks = 1 }
+walk s f (node h low l r) = if goesOn s f (node h low l r) then descend (walk s f l) (walk s f r) else stop
+
+-- "The conflict search starts at the root"
+abbrev pub walkOf : State → Option Rec → Walked
+walkOf S none = record { found = false; looks = 0 }
+walkOf S (some r) = walk (r .snapshot) (reach r) (treeOf 32 0 (S .kept))
+
+-- "An empty tree takes 0; so do answers 2, 4, 5, 6, 7"
+abbrev pub looksFor : State → Option Rec → Verdict → ℕ
+looksFor S m committed = walkOf S m .looks
+looksFor S m conflict = walkOf S m .looks
+looksFor S m tooOld = 0
+looksFor S m noRoom = walkOf S m .looks
+looksFor S m malformed = 0
+looksFor S m ahead = 0
+looksFor S m usedUp = 0
+
+-- the looks that a meld reports
+unfoldable pub looksOf : State → Option Rec → ℕ
+looksOf S m = looksFor S m (verdict S m)
