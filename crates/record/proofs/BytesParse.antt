@@ -1,29 +1,27 @@
 -- Written records read back the same: the bytes of a valid record parse to it. Each point and each scan is found where it stands.
 -- Assumes nothing.
-use Prim.Native.Nat.{ℕ, zero, suc, _+_, _*_, _^_, _≤_, _<_}
+use Prim.Native.Nat.{ℕ, _+_, _^_, _≤_, _<_}
 use mathlib.Core.Path.{_≡_, refl, sym, ap, _∙_}
-use mathlib.Core.Bool.{Bool, true, false, cond, _&&_}
-use mathlib.Core.Option.{Option, none, some}
+use mathlib.Core.Option.{some}
 use mathlib.Core.List.{List, [], _∷_, _++_, append-assoc, append-nil}
 use native.Mathlib.Omega.{arith}
-use native.Mathlib.Nat.{add-assoc}
-use lib.ListN.{length, getD, drop, length-append}
-use lib.Dec.{leb, ltb, eqb}
+use lib.ListN.{length, drop, length-append}
 use borrow.Author.Tests.{le-ltb, le-leb, eq-eqb}
-use Rattle.words.specs.Word.{word, bigEndian}
+use Rattle.words.specs.Word.{bigEndian}
 use Rattle.record.specs.declared.point.Point.{Point}
 use Rattle.record.specs.declared.point.Point.the-variants.{Read, Put, Delete}
 use Rattle.record.specs.declared.point.Scan.{Scan}
 use Rattle.record.specs.declared.checker.PointStep.the-variants as PointStep
 use Rattle.record.specs.declared.checker.ScanStep.the-variants as ScanStep
 use Rattle.record.specs.Record.{Rec, keyOf, payloadOf, pointBytes, pointsBytes, scanBytes, scansBytes, bodyBytes, bytesOf, Rising, Apart, Valid}
-use Rattle.record.specs.Parse.{took, stepPoint, stepScan, parsePoints, parseScans, parse, headOk}
+use Rattle.record.specs.Parse.{took, stepPoint, stepScan, parsePoints, parseScans, parse}
 use Rattle.record.proofs.Places.{after-here, fits-here, byte-here, word-here, after-word}
-use Rattle.record.proofs.Sizes.{sizeOf, point-size, size-least, points-size-most, scan-bytes-size, scans-bytes-size, body-size, whole-size}
+use Rattle.record.proofs.Sizes.{sizeOf, point-size, points-size-most, scan-bytes-size, scans-bytes-size, body-size, whole-size}
 
 -- A POINT
 
 module _ (bs rest : List ℕ) (low at : ℕ) where
+  -- the step finds the point that stands there
   step-found : (p : Point) → drop at bs ≡ pointBytes p ++ rest → low ≤ keyOf p → keyOf p < 2 ^ 32 → payloadOf p < 2 ^ 64
       → stepPoint low bs at ≡ PointStep.Next p (sizeOf p)
   unfolding stepPoint
@@ -58,6 +56,7 @@ module _ (bs rest : List ℕ) (low at : ℕ) where
         byte-here bs (bigEndian 4 k ++ rest) at 3 e,
       )
 
+-- and the run all points that stand there
 pub points-found : (ps : List Point) (low at : ℕ) (bs rest : List ℕ) → drop at bs ≡ pointsBytes ps ++ rest → Rising low ps
     → parsePoints (length ps) low bs at ≡ took ps (at + length (pointsBytes ps))
 unfolding parsePoints
@@ -73,6 +72,7 @@ points-found (p ∷ ps) low at bs rest e r =
 
 -- A SCAN
 
+-- the step finds the scan that stands there
 scan-found : (c : Scan) (low at : ℕ) (bs rest : List ℕ) → drop at bs ≡ scanBytes c ++ rest → low ≤ c .low → c .low ≤ c .high → c .high < 2 ^ 32
     → stepScan low bs at ≡ ScanStep.Next c
 unfolding stepScan
@@ -87,6 +87,7 @@ scan-found c low at bs rest e a b h =
       le-ltb _ _ b,
     )
 
+-- and the run all scans that stand there
 pub scans-found : (cs : List Scan) (low at : ℕ) (bs rest : List ℕ) → drop at bs ≡ scansBytes cs ++ rest → Apart low cs
     → parseScans (length cs) low bs at ≡ took cs (at + length (scansBytes cs))
 unfolding parseScans
@@ -103,6 +104,7 @@ scans-found (c ∷ cs) low at bs rest e r =
 -- THE WHOLE RECORD
 
 module _ (r : Rec) (v : Valid r) where
+  -- what stands from place 9 on
   tail9 : List ℕ
   tail9 = pointsBytes (r .points) ++ scansBytes (r .scans)
 
@@ -110,6 +112,7 @@ module _ (r : Rec) (v : Valid r) where
   pub body-most : length (bodyBytes r) ≤ 903
   body-most = omega (arith, body-size r, points-size-most (r .points), scans-bytes-size (r .scans), v .few-points, v .few-scans)
 
+  -- the whole record is found
   pub bytes-parse : parse (bytesOf r) ≡ some r
   unfolding parse tail9
   bytes-parse =

@@ -1,10 +1,10 @@
 -- Small laws of cases: by the value of a test, by what a run of points or scans came to, and what cannot be.
 -- Assumes nothing.
-use Prim.Native.Nat.{ℕ, _≤_, _<_}
+use Prim.Native.Nat.{ℕ}
 use mathlib.Core.Path.{_≡_, refl, ap}
 use mathlib.Core.Bool.{Bool, true, false, _&&_}
 use mathlib.Core.Option.{Option, none, some}
-use mathlib.Core.List.{List, [], _∷_}
+use mathlib.Core.List.{List, _∷_}
 use native.Mathlib.Omega.{arith}
 use Rattle.record.specs.declared.point.Point.{Point}
 use Rattle.record.specs.declared.point.Scan.{Scan}
@@ -42,14 +42,17 @@ pub took-or : {A P : Type 0} (x : Parsed A) → (x ≡ bad → P) → ((xs : Lis
 took-or bad f g = f refl
 took-or (took xs at) f g = g xs at refl
 
+-- a run without an end was refused
 pub bad-end : {A : Type 0} (x : Parsed A) → endOf x ≡ End.Bad → x ≡ bad
 bad-end bad e = refl
 bad-end (took xs at) e = let z : _≡_ {A = ℕ} 0 1 = cc in absurd (omega arith)
 
+-- a run with an end was taken
 pub took-at : {A : Type 0} (x : Parsed A) (e : ℕ) → endOf x ≡ End.At e → x ≡ took (listOf x) e
 took-at bad e h = let z : _≡_ {A = ℕ} 0 1 = cc in absurd (omega arith)
 took-at (took xs at) e h = let z : at ≡ e = cc in ap (took xs) z
 
+-- a run that was taken ends at its place
 pub took-end : {A : Type 0} (x : Parsed A) → isTook x ≡ true → endOf x ≡ End.At (placeOf x)
 took-end bad w = let z : _≡_ {A = ℕ} 0 1 = cc in absurd (omega arith)
 took-end (took xs at) w = refl

@@ -1,14 +1,13 @@
 -- Well-formed bytes are written back the same: bytes that parse are the bytes of the record that they parse to, and that record is valid.
 -- Assumes nothing.
-use Prim.Native.Nat.{ℕ, zero, suc, _+_, _*_, _^_, _≤_, _<_}
+use Prim.Native.Nat.{ℕ, zero, suc, _+_, _^_, _≤_, _<_}
 use mathlib.Core.Path.{_≡_, refl, sym, ap, _∙_, subst}
-use mathlib.Core.Bool.{Bool, true, false, cond, _&&_}
-use mathlib.Core.Option.{Option, none, some}
+use mathlib.Core.Option.{some}
 use mathlib.Core.List.{List, [], _∷_, _++_, append-assoc, append-nil}
 use native.Mathlib.Omega.{arith}
-use lib.ListN.{length, getD, take, drop, length-drop, length-append}
+use lib.ListN.{length, getD, drop, length-drop}
 use lib.Seq.{drop-length}
-use lib.Dec.{leb, ltb, eqb}
+use lib.Dec.{ltb, eqb}
 use borrow.Author.Tests.{ltb-false, eqb-true, leb-true}
 use Rattle.words.specs.Word.{Bytes, word, bigEndian}
 use Rattle.words.specs.Laws.{word-fits}
@@ -18,10 +17,10 @@ use Rattle.record.specs.declared.point.Scan.{Scan}
 use Rattle.record.specs.declared.checker.PointStep.the-variants as PointStep
 use Rattle.record.specs.declared.checker.ScanStep.the-variants as ScanStep
 use Rattle.record.specs.Record.{Rec, keyOf, payloadOf, pointBytes, pointsBytes, scanBytes, scansBytes, bodyBytes, bytesOf, Rising, Apart, Valid}
-use Rattle.record.specs.Parse.{Parsed, bad, took, stepPoint, stepScan, afterPoint, afterScan, parsePoints, parseScans, onTook, parse, headOk}
+use Rattle.record.specs.Parse.{took, stepPoint, stepScan, parsePoints, parseScans, parse, headOk}
 use Rattle.record.proofs.Cases.{by-case, and-split, no-point, no-scan, no-some, took-or, after-point, after-scan}
 use Rattle.record.proofs.Places.{byte-at, word-at}
-use Rattle.record.proofs.Sizes.{sizeOf, point-size}
+use Rattle.record.proofs.Sizes.{point-size}
 
 -- A POINT
 
@@ -33,6 +32,7 @@ record PointIs (low : ℕ) (bs : List ℕ) (at : ℕ) (p : Point) (size : ℕ) :
   key-lt : keyOf p < 2 ^ 32
   payload-lt : payloadOf p < 2 ^ 64
 
+-- what a step reports
 point-is : (low : ℕ) (bs : List ℕ) (at : ℕ) (q p : Point) (k size : ℕ) → PointStep.Next q k ≡ PointStep.Next p size → PointIs low bs at q k → PointIs low bs at p size
 point-is low bs at q p k size e h =
     let a : q ≡ p = cc in
@@ -55,6 +55,7 @@ module _ (bs : List ℕ) (y : Bytes bs) (at : ℕ) where
       five kind (omega arith) d ∙ ap (λ (l : List ℕ). kind ∷ (bigEndian 4 (word 4 bs (at + 1)) ++ l)) t
       ∙ ap (λ (l : List ℕ). kind ∷ l) (sym (append-assoc (bigEndian 4 (word 4 bs (at + 1))) (bigEndian 8 (word 8 bs (at + 5))) (drop (at + 13) bs)))
 
+  -- a point that was found stands in the bytes, and keeps the rules
   point-stands : (low : ℕ) (p : Point) (size : ℕ) → stepPoint low bs at ≡ PointStep.Next p size → PointIs low bs at p size
   unfolding stepPoint
   point-stands low p size e =
@@ -97,6 +98,7 @@ record PointsAre (n low : ℕ) (bs : List ℕ) (at : ℕ) (ps : List Point) (e :
   rising : Rising low ps
   count : length ps ≡ n
 
+-- each point of the run stands in the bytes
 points-stand : (n low : ℕ) (bs : List ℕ) (at : ℕ) (ps : List Point) (e : ℕ) → Bytes bs → parsePoints n low bs at ≡ took ps e → PointsAre n low bs at ps e
 unfolding parsePoints
 points-stand zero low bs at ps e y h =
@@ -123,12 +125,14 @@ record ScanIs (low : ℕ) (bs : List ℕ) (at : ℕ) (c : Scan) : Type 0 where
   high-lt : c .high < 2 ^ 32
 
 module _ (bs : List ℕ) (y : Bytes bs) (at : ℕ) where
+  -- a low and a high
   eight : at + 8 ≤ length bs → drop at bs ≡ (bigEndian 4 (word 4 bs at) ++ bigEndian 4 (word 4 bs (at + 4))) ++ drop (at + 8) bs
   eight h =
       let i : at + 8 ≡ at + 4 + 4 = omega arith in
       word-at bs at 4 y (omega arith) ∙ ap (λ (l : List ℕ). bigEndian 4 (word 4 bs at) ++ l) (rw i (word-at bs (at + 4) 4 y (omega arith)))
       ∙ sym (append-assoc (bigEndian 4 (word 4 bs at)) (bigEndian 4 (word 4 bs (at + 4))) (drop (at + 8) bs))
 
+  -- a scan that was found stands in the bytes, and keeps the rules
   scan-stands : (low : ℕ) (c : Scan) → stepScan low bs at ≡ ScanStep.Next c → ScanIs low bs at c
   unfolding stepScan
   scan-stands low c e =
@@ -150,6 +154,7 @@ record ScansAre (n low : ℕ) (bs : List ℕ) (at : ℕ) (cs : List Scan) (e : �
   apart : Apart low cs
   count : length cs ≡ n
 
+-- each scan of the run stands in the bytes
 scans-stand : (n low : ℕ) (bs : List ℕ) (at : ℕ) (cs : List Scan) (e : ℕ) → Bytes bs → parseScans n low bs at ≡ took cs e → ScansAre n low bs at cs e
 unfolding parseScans
 scans-stand zero low bs at cs e y h =
@@ -177,24 +182,29 @@ pub record Written (bs : List ℕ) (r : Rec) : Type 0 where
 module _ (bs : List ℕ) (y : Bytes bs) (long : 9 ≤ length bs) (whole : word 2 bs 0 + 2 ≡ length bs) (version : getD bs 2 0 ≡ 1)
     (few-points : getD bs 7 0 ≤ 64) (few-scans : getD bs 8 0 ≤ 8) (ps : List Point) (cs : List Scan) (at : ℕ)
     (p : PointsAre (getD bs 7 0) 0 bs 9 ps at) (s : ScansAre (getD bs 8 0) 0 bs at cs (length bs)) where
+  -- the record
   r : Rec
   r = record { snapshot = word 4 bs 3; points = ps; scans = cs }
 
+  -- points and scans
   from-nine : drop 9 bs ≡ pointsBytes ps ++ scansBytes cs
   from-nine =
       p .run ∙ ap (λ (l : List ℕ). pointsBytes ps ++ l) (s .run ∙ ap (λ (l : List ℕ). scansBytes cs ++ l) (drop-length bs) ∙ append-nil (scansBytes cs))
 
+  -- the counts before them
   from-seven : drop 7 bs ≡ length ps ∷ length cs ∷ (pointsBytes ps ++ scansBytes cs)
   from-seven =
       byte-at bs 7 (omega arith) ∙ ap (λ (x : ℕ). x ∷ drop 8 bs) (sym (p .count)) ∙ ap (λ (l : List ℕ). length ps ∷ l)
       (byte-at bs 8 (omega arith) ∙ ap (λ (x : ℕ). x ∷ drop 9 bs) (sym (s .count)) ∙ ap (λ (l : List ℕ). length cs ∷ l) from-nine)
 
+  -- all that stands after the length
   from-two : drop 2 bs ≡ bodyBytes r
   unfolding r
   from-two =
       byte-at bs 2 (omega arith) ∙ ap (λ (x : ℕ). x ∷ drop 3 bs) version ∙ ap (λ (l : List ℕ). 1 ∷ l)
       (word-at bs 3 4 y (omega arith) ∙ ap (λ (l : List ℕ). bigEndian 4 (word 4 bs 3) ++ l) from-seven)
 
+  -- the length before that
   put-together : Written bs (record { snapshot = word 4 bs 3; points = ps; scans = cs })
   unfolding r
   put-together =
@@ -210,9 +220,11 @@ module _ (bs : List ℕ) (y : Bytes bs) (long : 9 ≤ length bs) (whole : word 2
         same = word-at bs 0 2 y (omega arith) ∙ ap (λ (l : List ℕ). bigEndian 2 (word 2 bs 0) ++ l) from-two ∙ ap (λ (k : ℕ). bigEndian 2 k ++ bodyBytes r) (sym n);
       }
 
+-- two records that parse gives are one
 same-some : (P : Rec → Type 0) (q r : Rec) → some q ≡ some r → P q → P r
 same-some P q r e h = let z : q ≡ r = cc in subst P z h
 
+-- bytes that parse are the record's own
 pub parse-bytes : (bs : List ℕ) (r : Rec) → Bytes bs → parse bs ≡ some r → Written bs r
 unfolding parse
 parse-bytes bs r y e =

@@ -1,9 +1,9 @@
 -- The round trip on definitions: well-formed bytes are written back the same, and written records read back the same.
 -- Assumes nothing.
-use Prim.Native.Nat.{ℕ, zero, suc, _+_, _^_, _≤_, _<_}
-use mathlib.Core.Path.{_≡_, refl, sym, ap, _∙_}
+use Prim.Native.Nat.{ℕ, zero, suc, _+_, _≤_, _<_}
+use mathlib.Core.Path.{_≡_, ap, _∙_}
 use mathlib.Core.Logic.{_↔_}
-use mathlib.Core.Option.{Option, none, some}
+use mathlib.Core.Option.{some}
 use mathlib.Core.List.{List, [], _∷_, _++_}
 use native.Mathlib.Omega.{arith}
 use lib.ListN.{length, getD}
@@ -38,6 +38,7 @@ pub record Sized (r : Rec) : Type 0 where
   pub field-most : word 2 (bytesOf r) 0 ≤ 903
   pub field : word 2 (bytesOf r) 0 + 2 ≡ length (bytesOf r)
 
+-- every valid record has such a size
 pub valid-size : (r : Rec) → Valid r → Sized r
 valid-size r v =
     let f : word 2 (bytesOf r) 0 ≡ length (bodyBytes r) = word-bigEndian 2 (length (bodyBytes r)) (bodyBytes r) (omega (arith, body-most r v)) in
@@ -48,6 +49,7 @@ valid-size r v =
 
 -- A RECORD'S BYTES ARE BYTES
 
+-- a byte before bytes
 bytes-cons : (a : ℕ) (s : List ℕ) → a < 256 → Bytes s → Bytes (a ∷ s)
 bytes-cons a s h b = record { byte = below }
   where
@@ -55,19 +57,23 @@ bytes-cons a s h b = record { byte = below }
     below zero = h
     below (suc i) = b .byte i
 
+-- none
 no-bytes : Bytes []
 no-bytes = record { byte = λ i. omega arith }
 
+-- the bytes of a point
 bytes-point : (p : Point) → Bytes (pointBytes p)
 bytes-point (Read k) = bytes-cons 1 (bigEndian 4 k) (omega arith) (bytes-bigEndian 4 k)
 bytes-point (Put k x) =
     bytes-cons 2 (bigEndian 4 k ++ bigEndian 8 x) (omega arith) (bytes-append (bigEndian 4 k) (bigEndian 8 x) (bytes-bigEndian 4 k) (bytes-bigEndian 8 x))
 bytes-point (Delete k) = bytes-cons 3 (bigEndian 4 k) (omega arith) (bytes-bigEndian 4 k)
 
+-- of a run of points
 bytes-points : (ps : List Point) → Bytes (pointsBytes ps)
 bytes-points [] = no-bytes
 bytes-points (p ∷ ps) = bytes-append (pointBytes p) (pointsBytes ps) (bytes-point p) (bytes-points ps)
 
+-- of a run of scans
 bytes-scans : (cs : List Scan) → Bytes (scansBytes cs)
 bytes-scans [] = no-bytes
 bytes-scans (c ∷ cs) =

@@ -1,7 +1,7 @@
 -- How many bytes points, scans and records have.
 -- Assumes nothing.
-use Prim.Native.Nat.{ℕ, zero, suc, _+_, _*_, _≤_, _<_}
-use mathlib.Core.Path.{_≡_, refl, sym, ap, _∙_}
+use Prim.Native.Nat.{ℕ, _+_, _*_, _≤_}
+use mathlib.Core.Path.{_≡_, refl}
 use mathlib.Core.List.{List, [], _∷_, _++_}
 use native.Mathlib.Omega.{arith}
 use lib.ListN.{length, length-append}
@@ -18,28 +18,34 @@ sizeOf (Read k) = 5
 sizeOf (Put k x) = 13
 sizeOf (Delete k) = 5
 
+-- a point has its size
 pub point-size : (p : Point) → length (pointBytes p) ≡ sizeOf p
 point-size (Read k) = omega (arith, length-bigEndian 4 k)
 point-size (Put k x) = omega (arith, length-append (bigEndian 4 k) (bigEndian 8 x), length-bigEndian 4 k, length-bigEndian 8 x)
 point-size (Delete k) = omega (arith, length-bigEndian 4 k)
 
+-- five at the least
 pub size-least : (p : Point) → 5 ≤ sizeOf p
 size-least (Read k) = omega arith
 size-least (Put k x) = omega arith
 size-least (Delete k) = omega arith
 
+-- thirteen at the most
 pub size-most : (p : Point) → sizeOf p ≤ 13
 size-most (Read k) = omega arith
 size-most (Put k x) = omega arith
 size-most (Delete k) = omega arith
 
+-- thirteen for each point at the most
 pub points-size-most : (ps : List Point) → length (pointsBytes ps) ≤ 13 * length ps
 points-size-most [] = omega arith
 points-size-most (p ∷ ps) = omega (arith, length-append (pointBytes p) (pointsBytes ps), point-size p, size-most p, points-size-most ps)
 
+-- a scan has eight bytes
 pub scan-bytes-size : (c : Scan) → length (scanBytes c) ≡ 8
 scan-bytes-size c = omega (arith, length-append (bigEndian 4 (c .low)) (bigEndian 4 (c .high)), length-bigEndian 4 (c .low), length-bigEndian 4 (c .high))
 
+-- eight for each scan
 pub scans-bytes-size : (cs : List Scan) → length (scansBytes cs) ≡ 8 * length cs
 scans-bytes-size [] = refl
 scans-bytes-size (c ∷ cs) = omega (arith, length-append (scanBytes c) (scansBytes cs), scan-bytes-size c, scans-bytes-size cs)
@@ -54,5 +60,6 @@ body-size r =
       length-append (pointsBytes (r .points)) (scansBytes (r .scans)),
     )
 
+-- two more with the length
 pub whole-size : (r : Rec) → length (bytesOf r) ≡ length (bodyBytes r) + 2
 whole-size r = omega (arith, length-append (bigEndian 2 (length (bodyBytes r))) (bodyBytes r), length-bigEndian 2 (length (bodyBytes r)))
