@@ -1,0 +1,32 @@
+-- What the second pass over the lists stores, byte by byte. No public promise cites it: proofs show that it is the record's bytes.
+-- Assumes nothing: these are definitions.
+use Prim.Native.Nat.{ℕ}
+use mathlib.Core.Bool.{cond}
+use mathlib.Core.List.{List, [], _∷_, _++_}
+use lib.Dec.{eqb}
+use Rattle.words.specs.Word.{bigEndian}
+
+-- the nine bytes before the points
+abbrev pub headBytes : ℕ → ℕ → ℕ → ℕ → List ℕ
+headBytes size snapshot points scans = bigEndian 2 size ++ (1 ∷ (bigEndian 4 snapshot ++ (points ∷ scans ∷ [])))
+
+-- a kind, a key and, for a put, a payload
+unfoldable pub storedPoint : ℕ → ℕ → ℕ → List ℕ
+storedPoint kind key payload = kind ∷ (bigEndian 4 key ++ cond (eqb kind 2) (bigEndian 8 payload) [])
+
+-- point by point
+unfoldable pub storedPoints : List ℕ → List ℕ → List ℕ → List ℕ
+storedPoints [] es xs = []
+storedPoints (k ∷ ks) [] xs = []
+storedPoints (k ∷ ks) (e ∷ es) [] = []
+storedPoints (k ∷ ks) (e ∷ es) (x ∷ xs) = storedPoint k e x ++ storedPoints ks es xs
+
+-- a low and a high
+abbrev pub storedScan : ℕ → ℕ → List ℕ
+storedScan low high = bigEndian 4 low ++ bigEndian 4 high
+
+-- scan by scan
+unfoldable pub storedScans : List ℕ → List ℕ → List ℕ
+storedScans [] hs = []
+storedScans (l ∷ ls) [] = []
+storedScans (l ∷ ls) (h ∷ hs) = storedScan l h ++ storedScans ls hs

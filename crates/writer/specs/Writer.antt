@@ -1,0 +1,91 @@
+-- Document 01, "The record": which record lent lists name, and what the writer answers and leaves in its output.
+-- Assumes nothing: these are definitions.
+use Prim.Native.Nat.{ℕ, _+_}
+use mathlib.Core.Bool.{cond, _&&_}
+use mathlib.Core.Option.{Option, none, some}
+use mathlib.Core.List.{List, [], _∷_, map}
+use lib.ListN.{length}
+use lib.Dec.{leb, ltb, eqb}
+use Rattle.record.specs.declared.answer.Answer.{Answer}
+use Rattle.record.specs.declared.point.Point.{Point}
+use Rattle.record.specs.declared.point.Point.the-variants.{Read, Put, Delete}
+use Rattle.record.specs.declared.point.Scan.{Scan}
+use Rattle.record.specs.declared.checker.PointStep.{PointStep}
+use Rattle.record.specs.declared.checker.PointStep.the-variants as PointStep
+use Rattle.record.specs.declared.checker.ScanStep.{ScanStep}
+use Rattle.record.specs.declared.checker.ScanStep.the-variants as ScanStep
+use Rattle.record.specs.declared.checker.End.{End}
+use Rattle.record.specs.declared.checker.End.the-variants as End
+use Rattle.record.specs.Answer.{committed, malformed, outputShort}
+use Rattle.record.specs.Record.{Rec, kindOf, keyOf, payloadOf, maxPoints, maxScans, bytesOf}
+use Rattle.record.specs.Parse.{Parsed, bad, took, afterPoint, afterScan, onTook}
+use Rattle.record.specs.Reader.{Lists, lists, lowOf, highOf, front}
+use Rattle.writer.specs.declared.Written.{Written}
+
+-- the point that a kind, a key and a payload name, with its size, if its kind is known, the payload of a read or delete is 0 and the key is at least low
+unfoldable pub pointNamed : ℕ → ℕ → ℕ → ℕ → PointStep
+pointNamed low kind key payload =
+    cond (ltb key low) PointStep.Bad
+    (cond (eqb kind 2) (PointStep.Next (Put key payload) 13)
+    (cond (eqb payload 0)
+    (cond (eqb kind 1) (PointStep.Next (Read key) 5) (cond (eqb kind 3) (PointStep.Next (Delete key) 5) PointStep.Bad))
+    PointStep.Bad))
+
+-- the scan from low to high, if low is at least the floor and at most high
+unfoldable pub scanNamed : ℕ → ℕ → ℕ → ScanStep
+scanNamed floor low high =
+    cond (ltb low floor) ScanStep.Bad (cond (ltb high low) ScanStep.Bad (ScanStep.Next (record { low = low; high = high })))
+
+-- the points that kinds, keys and payloads name, three lists of equal length, each key above the one before; and the place past their bytes
+unfoldable pub namedPoints : ℕ → List ℕ → List ℕ → List ℕ → ℕ → Parsed Point
+namedPoints low [] [] [] at = took [] at
+namedPoints low [] [] (x ∷ xs) at = bad
+namedPoints low [] (e ∷ es) xs at = bad
+namedPoints low (k ∷ ks) [] xs at = bad
+namedPoints low (k ∷ ks) (e ∷ es) [] at = bad
+namedPoints low (k ∷ ks) (e ∷ es) (x ∷ xs) at = afterPoint (pointNamed low k e x) (λ p size. namedPoints (keyOf p + 1) ks es xs (at + size))
+
+-- the scans that lows and highs name, two lists of equal length, each low above the high before it; and the place past their bytes
+unfoldable pub namedScans : ℕ → List ℕ → List ℕ → ℕ → Parsed Scan
+namedScans floor [] [] at = took [] at
+namedScans floor [] (h ∷ hs) at = bad
+namedScans floor (l ∷ ls) [] at = bad
+namedScans floor (l ∷ ls) (h ∷ hs) at = afterScan (scanNamed floor l h) (λ c. namedScans (c .high + 1) ls hs (at + 8))
+
+-- the record that the lists name, if they keep every rule
+unfoldable pub recordOf : ℕ → Lists → Option Rec
+recordOf snapshot l =
+    onTook (namedPoints 0 (l .kinds) (l .keys) (l .payloads) 9) λ ps at.
+    onTook (namedScans 0 (l .lows) (l .highs) at) λ cs end.
+    cond (leb (length ps) maxPoints && leb (length cs) maxScans) (some (record { snapshot = snapshot; points = ps; scans = cs })) none
+
+-- the lists that name a record
+abbrev pub listsOf : Rec → Lists
+listsOf r =
+    lists (map kindOf (r .points)) (map keyOf (r .points)) (map payloadOf (r .points)) (map lowOf (r .scans)) (map highOf (r .scans))
+
+-- what a call gives back and what it leaves in the output
+pub record Outcome : Type 0 where
+  pub written : Written
+  pub left : List ℕ
+
+-- the two together
+abbrev pub outcome : Written → List ℕ → Outcome
+outcome w l = record { written = w; left = l }
+
+-- "its size is given (0 on a refusal)"
+abbrev pub refused : Answer → Written
+refused a = record { answer = a; size = 0 }
+
+-- "refused with 4, then short output with 8; both leave the output untouched. On 0 the record stands at the front of the output, the rest is as before"
+unfoldable pub writeOf : Option Rec → List ℕ → Outcome
+writeOf none output = outcome (refused malformed) output
+writeOf (some r) output =
+    cond (leb (length (bytesOf r)) (length output))
+    (outcome (record { answer = committed; size = length (bytesOf r) }) (front (bytesOf r) output))
+    (outcome (refused outputShort) output)
+
+-- the size of the record named, if there is one: what the first pass over the lists finds
+abbrev pub sizeEnd : Option Rec → End
+sizeEnd none = End.Bad
+sizeEnd (some r) = End.At (length (bytesOf r))
