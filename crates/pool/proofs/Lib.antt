@@ -1,0 +1,9 @@
+pub mod Numbers
+pub mod Frame
+pub mod Subtree
+pub mod Root
+pub mod Placed
+pub mod Apart
+pub mod Everywhere
+pub mod Unique
+pub mod Fixed

@@ -1,0 +1,1 @@
+// What a pool means: no functions, only definitions and the laws that the crates above cite.
