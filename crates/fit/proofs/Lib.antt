@@ -1,0 +1,11 @@
+mod Tests
+mod InnerTests
+mod LeavesLaws
+mod Sound
+mod Complete
+mod FreeLaws
+mod HeadLaws
+mod Means
+mod Tally
+pub mod Linear
+pub mod Promises

@@ -1,0 +1,9 @@
+// FITNESS: whether any bytes are the image of a state, and a new pool. Nothing is asked of the bytes, and each node is looked at once.
+mod free;
+mod head;
+mod inner;
+mod leaf;
+mod leaves;
+pub mod whole;
+
+pub use whole::fit;
