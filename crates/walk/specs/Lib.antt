@@ -1,0 +1,4 @@
+pub mod Sorted
+pub mod Conflict
+pub mod Cursor
+pub mod Search
