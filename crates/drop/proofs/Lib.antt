@@ -1,0 +1,12 @@
+pub mod Olds
+pub mod Plans
+pub mod Arranging
+pub mod Fitting
+pub mod Roots
+pub mod Counting
+pub mod Moves
+pub mod Spots
+pub mod Dropping
+pub mod Places
+pub mod Headers
+pub mod Whole

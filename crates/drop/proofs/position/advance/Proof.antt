@@ -1,0 +1,25 @@
+-- `advance` meets its contract: the header one position on is the header of the arrangement one position on.
+-- Assumes nothing.
+use borrow.Author.Needs.{needs}
+use Rattle.drop.proofs.Whole.{position-left, advance-whole}
+use Rattle.drop.proofs.position.advance.Statement.{statement}
+use Rattle.drop.proofs.position.advance.Tie as tie
+
+read-header-requires : tie.Need-read-header-requires
+read-header-requires c κs = search needs
+
+add-v : tie.Need-add-v
+add-v c = record { fits = position-left _ _ (c .before .read-header .ensures) (c .before .before .before .before .pre) }
+
+write-header-requires : tie.Need-write-header-requires
+write-header-requires c κs = search needs
+
+same-length : tie.Need-same-length
+same-length c = search needs
+
+returns : tie.Need-returns
+returns c = advance-whole _ _ (c .before .before .before .before .before .read-header .ensures) (c .before .before .before .before .before .before .before .before .pre) _ (c .before .before .write-header .ensures)
+
+pub advance-spec : {M : Type 1} → statement M
+advance-spec =
+    tie.close (tie.spec read-header-requires add-v write-header-requires same-length returns)

@@ -1,0 +1,39 @@
+// How many kept tombstones are old. Only subtrees that hold one are entered.
+use nodes::read_header;
+use nodes::read_node;
+ghost use mathlib.Core.Path.{_≡_};
+ghost use lib.ListN.{length};
+ghost use Rattle.rules.specs.Lists.{keep};
+ghost use Rattle.pool.specs.Image.{Arrangement, Image, Fit, stateOf};
+ghost use Rattle.drop.specs.Old.{old};
+ghost use Rattle.drop.specs.Spot.{Standing, Counted};
+
+// The old tombstones in the tree at node i.
+fn count_below(pool: &[u8], i: u32, limit: u32) -> u32
+    requires { ⌜ Standing (now pool) i ⌝ }
+    ensures { λ r. ⌜ Counted (now (pool .entry)) i limit r ⌝ }
+{
+    let n = read_node(pool, i);
+    if limit < n.oldest {
+        return 0;
+    }
+    if n.kind == 2 {
+        return 1;
+    }
+    if n.kind == 1 {
+        return 0;
+    }
+    count_below(pool, n.left, limit) + count_below(pool, n.right, limit)
+}
+
+// How many kept tombstones of a fit pool have a position of at most limit.
+pub fn count_old(pool: &[u8], limit: u32) -> u32
+    requires { ⌜ Fit (now pool) ⌝ }
+    ensures { λ r. ⌜ ((A : Arrangement) → Image (now (pool .entry)) A → r ≡ length (keep (old limit) (stateOf A .kept))) ⌝ }
+{
+    let h = read_header(pool);
+    if h.root == 4294967295 {
+        return 0;
+    }
+    count_below(pool, h.root, limit)
+}

@@ -1,0 +1,13 @@
+pub mod Counts
+pub mod Shape
+pub mod Arranging
+pub mod Covering
+pub mod Splitting
+pub mod Roots
+pub mod Steps
+pub mod Under
+pub mod Cases
+pub mod FreeNodes
+pub mod SameTree
+pub mod Finish
+pub mod Whole

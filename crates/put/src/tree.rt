@@ -1,0 +1,121 @@
+// A leaf stored in the tree of a pool.
+use bits::above;
+use bits::cut;
+use bits::part_height;
+use nodes::Node;
+use nodes::read_node;
+use nodes::write_node;
+ghost use mathlib.Core.Path.{_≡_};
+ghost use Prim.Native.Nat.{_+_, _≤_, max, min};
+ghost use lib.ListN.{length};
+ghost use Rattle.nodes.specs.Nodes.{base};
+ghost use Rattle.pool.specs.Plan.{innerNode};
+ghost use Rattle.put.specs.Storing.{covered};
+ghost use Rattle.put.specs.Writes.{hookMem, splitMem};
+ghost use Rattle.put.specs.Places.{Ready, Puts};
+
+// Where the tree's root is afterwards, and whether its key was not there before.
+pub struct Rooted {
+    pub root: u32,
+    pub new: bool,
+}
+
+fn larger(x: u32, y: u32) -> u32
+    ensures { λ r. ⌜ r ≡ max x y ⌝ }
+{
+    if x < y { y } else { x }
+}
+
+fn smaller(x: u32, y: u32) -> u32
+    ensures { λ r. ⌜ r ≡ min x y ⌝ }
+{
+    if x < y { x } else { y }
+}
+
+// Whether a node at this height from low on covers the key.
+fn covers(low: u32, height: u32, key: u32) -> bool
+    requires { ⌜ height ≤ 32 ⌝ }
+    ensures { λ r. ⌜ r ≡ covered low height key ⌝ }
+{
+    if key < low {
+        return false;
+    }
+    above(key - low, height) == 0
+}
+
+fn inner(height: u32, low: u32, newest: u32, oldest: u32, left: u32, right: u32) -> Node
+    ensures { λ r. ⌜ r ≡ innerNode height low newest oldest left right ⌝ }
+{
+    Node {
+        height,
+        low,
+        newest,
+        oldest,
+        left,
+        right,
+        kind: 0,
+        spare: 0,
+    }
+}
+
+// The leaf as node b, and a new inner node a above it and node i, which holds n, where the two part.
+fn split(pool: &mut [u8], i: u32, n: Node, leaf: Node, a: u32, b: u32)
+    requires { ⌜ (base a + 32 ≤ length (now pool)) × (base b + 32 ≤ length (now pool)) ⌝ }
+    ensures { λ _. ⌜ now (pool .exit) ≡ splitMem (now (pool .entry)) i n leaf a b ⌝ }
+{
+    write_node(pool, b, leaf);
+    let height = part_height(n.low, leaf.low);
+    let low = cut(leaf.low, height);
+    let newest = larger(leaf.newest, n.newest);
+    let oldest = smaller(leaf.oldest, n.oldest);
+    if leaf.low < n.low {
+        write_node(pool, a, inner(height, low, newest, oldest, b, i));
+    } else {
+        write_node(pool, a, inner(height, low, newest, oldest, i, b));
+    }
+}
+
+// Node i, which held n, above its children as they are now.
+fn hook(pool: &mut [u8], i: u32, n: Node, left: u32, right: u32)
+    requires { ⌜ (base i + 32 ≤ length (now pool)) × (base left + 32 ≤ length (now pool)) × (base right + 32 ≤ length (now pool)) ⌝ }
+    ensures { λ _. ⌜ now (pool .exit) ≡ hookMem (now (pool .entry)) i n left right ⌝ }
+{
+    let l = read_node(pool, left);
+    let r = read_node(pool, right);
+    let newest = larger(l.newest, r.newest);
+    let oldest = smaller(l.oldest, r.oldest);
+    write_node(pool, i, inner(n.height, n.low, newest, oldest, left, right));
+}
+
+// Stores the leaf in the tree at node i; a and b are the nodes that a new key takes.
+pub fn put_at(pool: &mut [u8], i: u32, leaf: Node, a: u32, b: u32) -> Rooted
+    requires { ⌜ Ready (now pool) i leaf a b ⌝ }
+    ensures { λ r. ⌜ Puts (now (pool .entry)) i leaf a b (now (pool .exit)) r ⌝ }
+{
+    let n = read_node(pool, i);
+    if covers(n.low, n.height, leaf.low) {
+        if n.height == 0 {
+            write_node(pool, i, leaf);
+            return Rooted {
+                root: i,
+                new: false,
+            };
+        }
+        if covers(n.low, n.height - 1, leaf.low) {
+            let under = put_at(pool, n.left, leaf, a, b);
+            hook(pool, i, n, under.root, n.right);
+            return Rooted {
+                root: i,
+                new: under.new,
+            };
+        }
+        let under = put_at(pool, n.right, leaf, a, b);
+        hook(pool, i, n, n.left, under.root);
+        return Rooted {
+            root: i,
+            new: under.new,
+        };
+    }
+    split(pool, i, n, leaf, a, b);
+    Rooted { root: a, new: true }
+}
