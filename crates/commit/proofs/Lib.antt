@@ -1,0 +1,3 @@
+pub mod Storing
+mod Turns
+mod Whole

@@ -1,0 +1,59 @@
+-- Applying points to an arrangement: "puts and deletes are stored at v; .. anything that is not a put or a delete is passed over".
+-- Assumes nothing: these are definitions.
+use Prim.Native.Nat.{ℕ, _≤_}
+use mathlib.Core.Path.{_≡_}
+use mathlib.Core.List.{List, [], _∷_, List·Memᴰ as Mem}
+use mathlib.Core.Option.{Option, none, some}
+use lib.ListN.{length}
+use lib.Dec.{eqb}
+use Rattle.record.specs.declared.point.Point.{Point}
+use Rattle.record.specs.declared.point.Point.the-variants.{Read, Put, Delete}
+use Rattle.rules.specs.Lists.{if_then_else_}
+use Rattle.rules.specs.State.{Entry}
+use Rattle.rules.proofs.Written.{Sized}
+use Rattle.rules.specs.Footprint.{writesOf}
+use Rattle.rules.specs.Verdict.{storeAll}
+use Rattle.pool.specs.Image.{Arrangement, Image, stateOf}
+use Rattle.put.specs.declared.value.Value.{Value}
+use Rattle.put.specs.declared.value.Value.the-variants.{Live, Tombstone}
+use Rattle.put.specs.Storing.{putIn}
+
+-- the point of a kind, a key and a payload
+abbrev pub pointFrom : ℕ → ℕ → ℕ → Point
+pointFrom kind k x = if eqb kind 1 then Read k else if eqb kind 2 then Put k x else Delete k
+
+-- the points of three lists
+unfoldable pub pointsIn : List ℕ → List ℕ → List ℕ → List Point
+pointsIn [] ks xs = []
+pointsIn (kind ∷ kinds) [] xs = []
+pointsIn (kind ∷ kinds) (k ∷ ks) [] = []
+pointsIn (kind ∷ kinds) (k ∷ ks) (x ∷ xs) = pointFrom kind k x ∷ pointsIn kinds ks xs
+
+-- what a point stores
+abbrev pub valueOf : Point → Value
+valueOf (Read k) = Tombstone
+valueOf (Put k x) = Live x
+valueOf (Delete k) = Tombstone
+
+-- entries stored one after the other
+unfoldable pub storeIn : Arrangement → List Entry → Arrangement
+storeIn A [] = A
+storeIn A (w ∷ ws) = storeIn (putIn A w) ws
+
+-- the writes of three lists of points, at position v
+abbrev pub writesIn : ℕ → List ℕ → List ℕ → List ℕ → List Entry
+writesIn v kinds ks xs = writesOf v (pointsIn kinds ks xs)
+
+-- the pool is fit and past position 0, the lists are equally long, and all writes fit their bytes and find room
+pub record Applicable (m kinds ks xs : List ℕ) : Type 0 where
+  pub arrangement : Arrangement
+  pub image : Image m arrangement
+  pub written-at : 1 ≤ arrangement .p
+  pub as-many-keys : length ks ≡ length kinds
+  pub as-many-payloads : length xs ≡ length kinds
+  pub sized : (e : Entry) → Mem e (writesIn (arrangement .p) kinds ks xs) → Sized e
+  pub room : length (storeAll (writesIn (arrangement .p) kinds ks xs) (stateOf arrangement .kept)) ≤ arrangement .N
+
+-- afterwards all writes are stored at the pool's position
+abbrev pub Applies : List ℕ → List ℕ → List ℕ → List ℕ → List ℕ → Type 0
+Applies m kinds ks xs m′ = (A : Arrangement) → Image m A → Image m′ (storeIn A (writesIn (A .p) kinds ks xs))

@@ -1,0 +1,3 @@
+pub mod Counts
+mod Turns
+mod Decides

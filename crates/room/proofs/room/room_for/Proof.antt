@@ -1,0 +1,50 @@
+-- `room::room_for` meets its promise: what was counted decides row 3 (Decides.antt).
+use Rattle.room.proofs.Decides.{position-left, lists-same, lists-few, all-fits, more-fits, old-within, enough, after-drop, too-little}
+use borrow.Author.Needs.{needs}
+use Rattle.room.proofs.room.room_for.Statement.{statement}
+use Rattle.room.proofs.room.room_for.Tie as tie
+
+read-header-requires : tie.Need-read-header-requires
+read-header-requires c κs = search needs
+
+old-limit-requires : tie.Need-old-limit-requires
+old-limit-requires c κs = position-left _ _ _ _ (c .before .before .before .before .pre .1) (c .read-header .ensures)
+
+tally-points-requires : tie.Need-tally-points-requires
+tally-points-requires c κs = (c .before .before .before .before .before .pre .0, (lists-same _ _ _ (c .before .before .before .before .before .pre .1), lists-few _ _ _ (c .before .before .before .before .before .pre .1)))
+
+add-all : tie.Need-add-all
+add-all c = record { fits = all-fits _ _ _ (c .before .before .before .before .before .before .before .before .pre .0) (c .before .before .before .before .before .before .before .before .pre .1) _ (c .before .before .before .before .read-header .ensures) _ (c .before .before .before .old-limit .ensures) _ (c .before .before .tally-points .ensures) }
+
+returns : tie.Need-returns
+returns c = enough _ _ _ (c .before .before .before .before .before .before .before .before .before .before .pre .0) (c .before .before .before .before .before .before .before .before .before .before .pre .1) _ (c .before .before .before .before .before .before .read-header .ensures) _ (c .before .before .before .before .before .old-limit .ensures) _ (c .before .before .before .before .tally-points .ensures) (c .if1 .taken)
+
+add-if2 : tie.Need-add-if2
+add-if2 c = record { fits = more-fits _ _ _ (c .before .before .before .before .before .before .before .before .before .before .before .pre .0) (c .before .before .before .before .before .before .before .before .before .before .before .pre .1) _ (c .before .before .before .before .before .before .before .read-header .ensures) _ (c .before .before .before .before .before .before .old-limit .ensures) _ (c .before .before .before .before .before .tally-points .ensures) }
+
+count-old-requires : tie.Need-count-old-requires
+count-old-requires c κs = search needs
+
+sub-if2 : tie.Need-sub-if2
+sub-if2 c = old-within _ _ _ (c .before .before .before .before .before .before .before .before .before .before .before .before .pre .0) (c .before .before .before .before .before .before .before .before .before .before .before .before .pre .1) _ (c .before .before .before .before .before .before .before .before .read-header .ensures) _ (c .before .before .before .before .before .before .before .old-limit .ensures) _ (c .before .before .before .before .before .before .tally-points .ensures) _ (c .count-old .ensures)
+
+returns-2 : tie.Need-returns-2
+returns-2 c = after-drop _ _ _ (c .before .before .before .before .before .before .before .before .before .before .before .before .before .before .pre .0) (c .before .before .before .before .before .before .before .before .before .before .before .before .before .before .pre .1) _ (c .before .before .before .before .before .before .before .before .before .before .read-header .ensures) _ (c .before .before .before .before .before .before .before .before .before .old-limit .ensures) _ (c .before .before .before .before .before .before .before .before .tally-points .ensures) _ (c .before .before .count-old .ensures) (c .before .before .before .before .if1 .left) (c .if2 .taken)
+
+returns-3 : tie.Need-returns-3
+returns-3 c = too-little _ _ _ (c .before .before .before .before .before .before .before .before .before .before .before .before .before .before .pre .0) (c .before .before .before .before .before .before .before .before .before .before .before .before .before .before .pre .1) _ (c .before .before .before .before .before .before .before .before .before .before .read-header .ensures) _ (c .before .before .before .before .before .before .before .before .before .old-limit .ensures) _ (c .before .before .before .before .before .before .before .before .tally-points .ensures) _ (c .before .before .count-old .ensures) (c .before .before .before .before .if1 .left) (c .if2 .left)
+
+pub room-for-spec : {M : Type 1} → statement M
+room-for-spec =
+    tie.close
+    (tie.spec
+    read-header-requires
+    old-limit-requires
+    tally-points-requires
+    add-all
+    returns
+    add-if2
+    count-old-requires
+    sub-if2
+    returns-2
+    returns-3)
