@@ -1,0 +1,6 @@
+pub mod AfterState
+mod Judging
+mod Verdicts
+mod Lookups
+mod Readings
+mod Whole
