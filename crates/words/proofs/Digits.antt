@@ -24,6 +24,24 @@ pub word-4 : (s : List ℕ) (at a b c d : ℕ) → a ≡ getD s at 0 → b ≡ g
 unfolding word
 word-4 s at a b c d e f g h = omega (arith, start s at)
 
+-- four bytes, the first the lowest digit, turned
+pub turned-4 : (a b c d x : ℕ) → a < 256 → b < 256 → c < 256 → d < 256 → x ≡ a + b * 256 + c * 65536 + d * 16777216
+    → x % 256 * 16777216 + x / 256 % 256 * 65536 + x / 65536 % 256 * 256 + x / 16777216 ≡ a * 16777216 + b * 65536 + c * 256 + d
+turned-4 a b c d x p q r s e =
+    let e0 : x % 256 ≡ a = omega arith in
+    let f1 : x / 256 ≡ b + c * 256 + d * 65536 = omega arith in
+    let f2 : x / 65536 ≡ c + d * 256 = omega arith in
+    let e1 : x / 256 % 256 ≡ b = ap (λ (y : ℕ). y % 256) f1 ∙ omega arith in
+    let e2 : x / 65536 % 256 ≡ c = ap (λ (y : ℕ). y % 256) f2 ∙ omega arith in
+    let e3 : x / 16777216 ≡ d = omega arith in
+    rw (e0, e1, e2, e3)
+
+pub word-4-turned : (s : List ℕ) (at a b c d r : ℕ) → (a ≡ getD s at 0) × (a < 256) → (b ≡ getD s (at + 1) 0) × (b < 256) → (c ≡ getD s (at + 2) 0) × (c < 256) → (d ≡ getD s (at + 3) 0) × (d < 256)
+    → r ≡ (a + b * 256 + c * 65536 + d * 16777216) % 256 * 16777216 + (a + b * 256 + c * 65536 + d * 16777216) / 256 % 256 * 65536 + (a + b * 256 + c * 65536 + d * 16777216) / 65536 % 256 * 256 + (a + b * 256 + c * 65536 + d * 16777216) / 16777216
+    → r ≡ word 4 s at
+word-4-turned s at a b c d r e f g h x =
+    x ∙ turned-4 a b c d (a + b * 256 + c * 65536 + d * 16777216) (e .1) (f .1) (g .1) (h .1) refl ∙ word-4 s at a b c d (e .0) (f .0) (g .0) (h .0)
+
 pub word-8 : (s : List ℕ) (at a b : ℕ) → a ≡ word 4 s at → b ≡ word 4 s (at + 4) → a * 4294967296 + b ≡ word 8 s at
 word-8 s at a b e f = rw (e, f) (sym (word-split 4 4 s at))
 

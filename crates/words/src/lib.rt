@@ -1,6 +1,6 @@
 // Big-endian numbers of 2, 4 and 8 bytes in lent bytes. The caller shows that they lie inside.
 ghost use mathlib.Core.Path.{_≡_};
-ghost use Prim.Native.Nat.{_+_, _*_, _≤_, _<_};
+ghost use Prim.Native.Nat.{_+_, _*_, _/_, _%_, _≤_, _<_};
 ghost use lib.ListN.{length};
 ghost use Rattle.words.specs.Word.{word, putWord};
 
@@ -19,15 +19,25 @@ pub fn word2(bytes: &[u8], at: usize) -> u32
     wide(bytes[at]) * 256 + wide(bytes[at + 1])
 }
 
-// The number in the four bytes from `at` on.
+// The number whose bytes are those of x in the reverse order.
+fn turned(x: u32) -> u32
+    ensures { λ r. ⌜ r ≡ x % 256 * 16777216 + x / 256 % 256 * 65536 + x / 65536 % 256 * 256 + x / 16777216 ⌝ }
+{
+    x % 256 * 16777216 + x / 256 % 256 * 65536 + x / 65536 % 256 * 256 + x / 16777216
+}
+
+// The number in the four bytes from `at` on. Read from the last byte's side and turned: a compiler makes one load and one byte swap of
+// it, and none of the two where the number is compared with zero.
 pub fn word4(bytes: &[u8], at: usize) -> u32
     requires { ⌜ at + 4 ≤ length (now bytes) ⌝ }
     ensures { λ r. ⌜ r ≡ word 4 (now (bytes .entry)) at ⌝ }
 {
-    wide(bytes[at]) * 16777216
-        + wide(bytes[at + 1]) * 65536
-        + wide(bytes[at + 2]) * 256
-        + wide(bytes[at + 3])
+    turned(
+        wide(bytes[at])
+            + wide(bytes[at + 1]) * 256
+            + wide(bytes[at + 2]) * 65536
+            + wide(bytes[at + 3]) * 16777216,
+    )
 }
 
 // The number in the eight bytes from `at` on.
