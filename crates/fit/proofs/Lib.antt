@@ -9,3 +9,4 @@ mod Means
 mod Tally
 pub mod Linear
 pub mod Promises
+pub mod Decided
