@@ -4,3 +4,4 @@ mod Verdicts
 mod Lookups
 mod Readings
 mod Whole
+pub mod Only

@@ -10,3 +10,4 @@ pub use kept::Lookup;
 pub use looking::lookup;
 pub use melding::Melded;
 pub use melding::meld;
+pub use refresh::refresh;

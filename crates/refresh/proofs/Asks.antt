@@ -1,0 +1,172 @@
+-- The record that was read into lists, and what `judge` says of it.
+-- Assumes nothing.
+use Prim.Native.Nat.{ℕ, _-_, _≤_}
+use mathlib.Core.Path.{_≡_, refl, sym, ap, _∙_}
+use mathlib.Core.Bool.{Bool, true, false}
+use mathlib.Core.Option.{Option, none, some}
+use mathlib.Core.List.{List, map}
+use native.Mathlib.Omega.{arith}
+use lib.ListN.{length, take, drop, replicate, length-map, length-append, length-replicate}
+use lib.Seq.{take-at}
+use lib.Dec.{ltb}
+use borrow.Author.Tests.{le-leb}
+use Rattle.words.specs.Word.{Bytes}
+use Rattle.record.specs.declared.point.Scan.{Scan}
+use Rattle.record.specs.declared.reader.Reading.{Reading}
+use Rattle.record.specs.Answer.{committed, conflict, tooOld, malformed, ahead}
+use Rattle.record.specs.Record.{Rec, Valid, keyOf}
+use Rattle.record.specs.Parse.{parse}
+use Rattle.record.specs.Reader.{Lists, Outcome, outcome, lists, front, roomy, filled, readOf, lowOf, highOf}
+use Rattle.record.proofs.RoundTrip.{bytesOf-parse}
+use Rattle.rules.specs.Lists.{if_then_else_}
+use Rattle.rules.specs.State.{State}
+use Rattle.rules.specs.Footprint.{reach}
+use Rattle.rules.specs.Tree.{treeOf, walk}
+use Rattle.rules.specs.Verdict as Verdict
+use Rattle.rules.specs.Verdict.{conflicts}
+use Rattle.rules.specs.Refresh.{done, refused, answerTo, at, refresh}
+use Rattle.pool.specs.Image.{Arrangement, Image, stateOf}
+use Rattle.walk.specs.Sorted.{Sorted, footprint}
+use Rattle.walk.proofs.Reach.{sorted-valid, footprint-reach}
+use Rattle.judge.specs.declared.judged.Judged.{Judged}
+use Rattle.judge.specs.Judged.{judged, judgedOf}
+
+-- WHAT WAS READ
+
+-- the front of a list is what was put there
+front-taken : (vs l : List ℕ) (n : ℕ) → n ≡ length vs → take n (front vs l) ≡ vs
+front-taken vs l n e = take-at vs (drop (length vs) l) n (sym e)
+
+-- and it lies inside
+front-fits : (vs l : List ℕ) (n : ℕ) → n ≡ length vs → n ≤ length (front vs l)
+front-fits vs l n e = omega (arith, length-append vs (drop (length vs) l))
+
+-- the lists have room for every record
+pub record Roomy (l : Lists) : Type 0 where
+  pub kinds : 64 ≤ length (l .kinds)
+  pub keys : 64 ≤ length (l .keys)
+  pub payloads : 64 ≤ length (l .payloads)
+  pub lows : 8 ≤ length (l .lows)
+  pub highs : 8 ≤ length (l .highs)
+
+-- as the five local arrays have
+pub arrays-roomy : Roomy (lists (replicate 64 0) (replicate 64 0) (replicate 64 0) (replicate 8 0) (replicate 8 0))
+arrays-roomy =
+    record {
+      kinds = omega (arith, length-replicate {A = ℕ} 64 0);
+      keys = omega (arith, length-replicate {A = ℕ} 64 0);
+      payloads = omega (arith, length-replicate {A = ℕ} 64 0);
+      lows = omega (arith, length-replicate {A = ℕ} 8 0);
+      highs = omega (arith, length-replicate {A = ℕ} 8 0);
+    }
+
+-- the bytes are record r, and its lists stand at the fronts
+pub record Taken (bs : List ℕ) (a : Reading) (l : Lists) : Type 0 where
+  pub r : Rec
+  pub is : parse bs ≡ some r
+  pub valid : Valid r
+  pub snapshot : a .snapshot ≡ r .snapshot
+  pub keys : take (a .points) (l .keys) ≡ map keyOf (r .points)
+  pub lows : take (a .scans) (l .lows) ≡ map lowOf (r .scans)
+  pub highs : take (a .scans) (l .highs) ≡ map highOf (r .scans)
+  pub points-inside : a .points ≤ length (l .keys)
+  pub lows-inside : a .scans ≤ length (l .lows)
+  pub highs-inside : a .scans ≤ length (l .highs)
+
+module _ (bs : List ℕ) (bytes : Bytes bs) (before after : Lists) (room : Roomy before) (a : Reading) (e : outcome a after ≡ readOf (parse bs) before) where
+  -- a valid record finds room
+  finds-room : (r : Rec) → Valid r → roomy r before ≡ true
+  finds-room r v =
+      let p : length (r .points) ≤ 64 = v .few-points in
+      let c : length (r .scans) ≤ 8 = v .few-scans in
+      simp (
+        le-leb (length (r .points)) (length (before .kinds)) (omega arith),
+        le-leb (length (r .points)) (length (before .keys)) (omega arith),
+        le-leb (length (r .points)) (length (before .payloads)) (omega arith),
+        le-leb (length (r .scans)) (length (before .lows)) (omega arith),
+        le-leb (length (r .scans)) (length (before .highs)) (omega arith),
+      )
+
+  -- what the reading of a record says
+  abbrev readingOf : Rec → Reading
+  readingOf r = record { answer = committed; snapshot = r .snapshot; points = length (r .points); scans = length (r .scans) }
+
+  was-read : (r : Rec) → parse bs ≡ some r → outcome a after ≡ outcome (readingOf r) (filled r before)
+  unfolding readOf
+  was-read r p = e ∙ simp (p, finds-room r (bytesOf-parse bs r bytes p .0))
+
+  -- an answer other than 0 means that the bytes are no record
+  pub none-taken : (a .answer .number ≡ 0 → ⊥) → parse bs ≡ none
+  none-taken n = go (parse bs) refl
+    where
+      go : (o : Option Rec) → parse bs ≡ o → o ≡ none
+      go none p = refl
+      go (some r) p = absurd (n (ap (λ (o : Outcome). o .reading .answer .number) (was-read r p)))
+
+  -- answer 0 means that they are one
+  pub taken : a .answer .number ≡ 0 → Taken bs a after
+  unfolding readOf
+  taken z = go (parse bs) refl
+    where
+      go : (o : Option Rec) → parse bs ≡ o → Taken bs a after
+      go none p =
+          let q : outcome a after ≡ readOf none before = e ∙ ap (λ (o : Option Rec). readOf o before) p in
+          absurd (omega (arith, ap (λ (o : Outcome). o .reading .answer .number) q))
+      go (some r) p =
+          let f : outcome a after ≡ outcome (readingOf r) (filled r before) = was-read r p in
+          let points : a .points ≡ length (map keyOf (r .points)) = ap (λ (o : Outcome). o .reading .points) f ∙ sym (length-map (r .points) keyOf) in
+          let lows : a .scans ≡ length (map lowOf (r .scans)) = ap (λ (o : Outcome). o .reading .scans) f ∙ sym (length-map (r .scans) lowOf) in
+          let highs : a .scans ≡ length (map highOf (r .scans)) = ap (λ (o : Outcome). o .reading .scans) f ∙ sym (length-map (r .scans) highOf) in
+          let ek : after .keys ≡ front (map keyOf (r .points)) (before .keys) = ap (λ (o : Outcome). o .left .keys) f in
+          let el : after .lows ≡ front (map lowOf (r .scans)) (before .lows) = ap (λ (o : Outcome). o .left .lows) f in
+          let eh : after .highs ≡ front (map highOf (r .scans)) (before .highs) = ap (λ (o : Outcome). o .left .highs) f in
+          record {
+            r = r;
+            is = p;
+            valid = bytesOf-parse bs r bytes p .0;
+            snapshot = ap (λ (o : Outcome). o .reading .snapshot) f;
+            keys = rw ek (front-taken (map keyOf (r .points)) (before .keys) (a .points) points);
+            lows = rw el (front-taken (map lowOf (r .scans)) (before .lows) (a .scans) lows);
+            highs = rw eh (front-taken (map highOf (r .scans)) (before .highs) (a .scans) highs);
+            points-inside = rw ek (front-fits (map keyOf (r .points)) (before .keys) (a .points) points);
+            lows-inside = rw el (front-fits (map lowOf (r .scans)) (before .lows) (a .scans) lows);
+            highs-inside = rw eh (front-fits (map highOf (r .scans)) (before .highs) (a .scans) highs);
+          }
+
+-- WHAT IS ANSWERED
+
+-- the same tests in the same order
+same-tests : (b₁ b₂ b₃ : Bool) (n : ℕ) (r : Rec)
+    → (if b₁ then judged ahead 0 else if b₂ then judged tooOld 0 else if b₃ then judged conflict n else judged committed n) .answer
+    ≡ answerTo (if b₁ then refused Verdict.ahead else if b₂ then refused Verdict.tooOld else if b₃ then refused Verdict.conflict else done r)
+same-tests true b₂ b₃ n r = refl
+same-tests false true b₃ n r = refl
+same-tests false false true n r = refl
+same-tests false false false n r = refl
+
+-- rows 5, 2 and 1 are those of the rules
+judged-answer : (S : State) (r : Rec) → judgedOf S (r .snapshot) (reach r) .answer ≡ answerTo (refresh S (some r))
+unfolding judgedOf refresh
+judged-answer S r =
+    same-tests (ltb (S .p) (r .snapshot)) (ltb (S .Z) (S .p - r .snapshot)) (conflicts S r) (walk (r .snapshot) (reach r) (treeOf 32 0 (S .kept)) .looks) (at (S .p) r)
+
+module _ (m bs : List ℕ) where
+  -- 4 for bytes that are no record
+  pub asked-malformed : parse bs ≡ none → (A : Arrangement) → Image m A → malformed ≡ answerTo (refresh (stateOf A) (parse bs))
+  unfolding refresh
+  asked-malformed e A i = rw e
+
+  module _ (a : Reading) (l : Lists) (t : Taken bs a l) where
+    -- `judge` may be asked
+    pub taken-sorted : Sorted (take (a .points) (l .keys)) (take (a .scans) (l .lows)) (take (a .scans) (l .highs))
+    taken-sorted = rw (t .keys, t .lows, t .highs) (sorted-valid (t .valid))
+
+    -- and its answer is refresh's
+    pub asked-judged : (j : Judged)
+        → ((A : Arrangement) → Image m A → j ≡ judgedOf (stateOf A) (a .snapshot) (footprint (take (a .points) (l .keys)) (take (a .scans) (l .lows)) (take (a .scans) (l .highs))))
+        → (A : Arrangement) → Image m A → j .answer ≡ answerTo (refresh (stateOf A) (parse bs))
+    asked-judged j k A i =
+        let f : footprint (take (a .points) (l .keys)) (take (a .scans) (l .lows)) (take (a .scans) (l .highs)) ≡ reach (t .r) = rw (t .keys, t .lows, t .highs) (footprint-reach (t .r)) in
+        ap (λ (x : Judged). x .answer) (k A i) ∙ ap (λ (x : List Scan). judgedOf (stateOf A) (a .snapshot) x .answer) f
+        ∙ ap (λ (s : ℕ). judgedOf (stateOf A) s (reach (t .r)) .answer) (t .snapshot) ∙ judged-answer (stateOf A) (t .r)
+        ∙ ap (λ (o : Option Rec). answerTo (refresh (stateOf A) o)) (sym (t .is))

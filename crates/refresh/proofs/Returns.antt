@@ -1,0 +1,114 @@
+-- One law for each return of `refresh_fit`: the tests before it decide what is left by refresh's definition.
+-- Assumes nothing.
+use Prim.Native.Nat.{ℕ, _+_, _-_, _≤_, _<_}
+use mathlib.Core.Path.{_≡_, refl, sym, ap, _∙_}
+use mathlib.Core.Bool.{Bool, true, false}
+use mathlib.Core.Option.{Option, none, some}
+use mathlib.Core.List.{List, _++_}
+use native.Mathlib.Omega.{arith}
+use lib.ListN.{length, drop, length-append}
+use lib.Dec.{ltb}
+use borrow.Author.Tests.{lt-ltb, le-ltb}
+use Rattle.words.specs.Word.{Bytes, putWord}
+use Rattle.record.specs.declared.answer.Answer.{Answer}
+use Rattle.record.specs.Answer.{committed, outputShort}
+use Rattle.record.specs.Record.{Rec, bytesOf}
+use Rattle.record.specs.Parse.{parse}
+use Rattle.record.specs.Reader.{front}
+use Rattle.record.proofs.RoundTrip.{bytesOf-parse, valid-size}
+use Rattle.nodes.specs.declared.header.Header.{Header}
+use Rattle.nodes.specs.Nodes.{headerAt}
+use Rattle.rules.specs.Lists.{if_then_else_}
+use Rattle.rules.specs.State.{State}
+use Rattle.rules.specs.Verdict.{conflict, tooOld, ahead, conflicts}
+use Rattle.rules.specs.Refresh.{Refreshed, done, refused, answerTo, at, refresh}
+use Rattle.pool.specs.Image.{Arrangement, Image, Fit, stateOf}
+use Rattle.refresh.specs.Refreshed.{outcome, leftBy, refreshedOf}
+use Rattle.refresh.proofs.NewSnapshot.{same-size, snapshot-stored}
+
+-- WHICH ANSWER
+
+-- a refusal's answer leaves the output as it was
+refused-is : (before : List ℕ) (a : Answer) (x : Refreshed) → a ≡ answerTo x → (a .number ≡ 0 → ⊥) → outcome a before ≡ leftBy x before
+unfolding leftBy
+refused-is before a (done r) e n = absurd (n (ap (λ (b : Answer). b .number) e))
+refused-is before a (refused v) e n = ap (λ (b : Answer). outcome b before) e
+
+-- the three refusals are not 0
+only-done : (b₁ b₂ b₃ : Bool) (r : Rec)
+    → answerTo (if b₁ then refused ahead else if b₂ then refused tooOld else if b₃ then refused conflict else done r) .number ≡ 0
+    → (if b₁ then refused ahead else if b₂ then refused tooOld else if b₃ then refused conflict else done r) ≡ done r
+only-done true b₂ b₃ r e = absurd (omega arith)
+only-done false true b₃ r e = absurd (omega arith)
+only-done false false true r e = absurd (omega arith)
+only-done false false false r e = refl
+
+-- the bytes are a record, and it is refreshed
+pub record Goes (S : State) (m : Option Rec) : Type 0 where
+  pub r : Rec
+  pub is : m ≡ some r
+  pub does : refresh S m ≡ done (at (S .p) r)
+
+pub goes : (S : State) (m : Option Rec) → answerTo (refresh S m) .number ≡ 0 → Goes S m
+unfolding refresh
+goes S none e = absurd (omega arith)
+goes S (some r) e =
+    record { r = r; is = refl; does = only-done (ltb (S .p) (r .snapshot)) (ltb (S .Z) (S .p - r .snapshot)) (conflicts S r) (at (S .p) r) e }
+
+-- WHAT IS LEFT
+
+module _ (S : State) (bs before : List ℕ) (bytes : Bytes bs) (g : Goes S (parse bs)) where
+  -- the bytes lent are the record's
+  lent : bs ≡ bytesOf (g .r)
+  lent = bytesOf-parse bs (g .r) bytes (g .is) .1
+
+  -- the refreshed record is as long
+  size : length (bytesOf (at (S .p) (g .r))) ≡ length bs
+  size = same-size (S .p) (g .r) ∙ ap length (sym lent)
+
+  -- nine bytes at the least
+  long : 9 ≤ length bs
+  long = omega (arith, valid-size (g .r) (bytesOf-parse bs (g .r) bytes (g .is) .0) .least, ap length lent)
+
+  too-short : length before < length bs → outcome outputShort before ≡ refreshedOf S (parse bs) before
+  unfolding leftBy
+  too-short h = rw (g .does, lt-ltb (length before) (length (bytesOf (at (S .p) (g .r)))) (rw size h))
+
+  -- the original copied to the front, then p in the place of its snapshot
+  put-over : putWord 4 (front bs before) 3 (S .p) ≡ front (bytesOf (at (S .p) (g .r))) before
+  put-over =
+      ap (λ (l : List ℕ). putWord 4 (l ++ drop (length bs) before) 3 (S .p)) lent ∙ snapshot-stored (S .p) (g .r) (drop (length bs) before)
+      ∙ ap (λ (n : ℕ). bytesOf (at (S .p) (g .r)) ++ drop n before) (sym size)
+
+  long-enough : length bs ≤ length before → outcome committed (putWord 4 (front bs before) 3 (S .p)) ≡ refreshedOf S (parse bs) before
+  unfolding leftBy
+  long-enough h = rw (g .does, le-ltb (length before) (length (bytesOf (at (S .p) (g .r)))) (rw size h)) (ap (outcome committed) put-over)
+
+-- THE RETURNS
+
+module _ (m bs before : List ℕ) (bytes : Bytes bs) (a : Answer) (asked : (A : Arrangement) → Image m A → a ≡ answerTo (refresh (stateOf A) (parse bs))) where
+  pub returns-refused : (a .number ≡ 0 → ⊥) → (A : Arrangement) → Image m A → outcome a before ≡ refreshedOf (stateOf A) (parse bs) before
+  returns-refused n A i = refused-is before a (refresh (stateOf A) (parse bs)) (asked A i) n
+
+  module _ (zero : a .number ≡ 0) where
+    gone : (A : Arrangement) → Image m A → Goes (stateOf A) (parse bs)
+    gone A i = goes (stateOf A) (parse bs) (ap (λ (b : Answer). b .number) (sym (asked A i)) ∙ zero)
+
+    pub returns-short : length before < length bs → (A : Arrangement) → Image m A → outcome outputShort before ≡ refreshedOf (stateOf A) (parse bs) before
+    returns-short h A i = too-short (stateOf A) bs before bytes (gone A i) h
+
+    -- the record reaches past its snapshot
+    pub original-long : Fit m → 3 + 4 ≤ length bs
+    original-long f = omega (arith, long (stateOf (f .arrangement)) bs before bytes (gone (f .arrangement) (f .image)))
+
+    module _ (room : length bs ≤ length before) (copied : List ℕ) (copy : copied ≡ front bs before) where
+      -- there is room for the snapshot
+      pub snapshot-inside : Fit m → 3 + 4 ≤ length copied
+      snapshot-inside f = omega (arith, ap length copy, length-append bs (drop (length bs) before), original-long f)
+
+      pub returns-done : (h : Header) → h ≡ headerAt m → (after : List ℕ) → after ≡ putWord 4 copied 3 (h .position)
+          → (A : Arrangement) → Image m A → outcome committed after ≡ refreshedOf (stateOf A) (parse bs) before
+      returns-done h eh after put A i =
+          let p : h .position ≡ A .p = ap (λ (x : Header). x .position) (eh ∙ i .header) in
+          ap (outcome committed) (put ∙ ap (λ (l : List ℕ). putWord 4 l 3 (h .position)) copy ∙ ap (putWord 4 (front bs before) 3) p)
+          ∙ long-enough (stateOf A) bs before bytes (gone A i) room

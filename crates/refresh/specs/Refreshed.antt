@@ -1,0 +1,42 @@
+-- Document 01, "Refresh": what it answers and what it leaves in the output, by the state that the pool means. Order 7, 4, 5, 2, 1, 8, 0.
+-- Assumes nothing: these are definitions.
+use Prim.Native.Nat.{ℕ}
+use mathlib.Core.Path.{_≡_}
+use mathlib.Core.List.{List}
+use mathlib.Core.Option.{Option}
+use lib.ListN.{length}
+use lib.Dec.{ltb}
+use Rattle.record.specs.declared.answer.Answer.{Answer}
+use Rattle.record.specs.Answer.{committed, unfitPool, outputShort}
+use Rattle.record.specs.Record.{Rec, bytesOf}
+use Rattle.record.specs.Parse.{parse}
+use Rattle.record.specs.Reader.{front}
+use Rattle.rules.specs.Lists.{if_then_else_}
+use Rattle.rules.specs.State.{State}
+use Rattle.rules.specs.Verdict.{answerOf}
+use Rattle.rules.specs.Refresh.{Refreshed, done, refused, refresh}
+use Rattle.pool.specs.Image.{Arrangement, Image, Fit, stateOf}
+
+-- the answer, and the output afterwards
+pub record Outcome : Type 0 where
+  pub answer : Answer
+  pub output : List ℕ
+
+abbrev pub outcome : Answer → List ℕ → Outcome
+outcome a output = record { answer = a; output = output }
+
+-- a refusal leaves the output untouched; then 8, "the room needed is the record's own size"; on 0 the record is the output's front
+unfoldable pub leftBy : Refreshed → List ℕ → Outcome
+leftBy (refused v) output = outcome (answerOf v) output
+leftBy (done r) output =
+    if ltb (length output) (length (bytesOf r)) then outcome outputShort output else
+    outcome committed (front (bytesOf r) output)
+
+-- at a state, for the record that the bytes are, none if they are not well formed, and an output
+abbrev pub refreshedOf : State → Option Rec → List ℕ → Outcome
+refreshedOf S m output = leftBy (refresh S m) output
+
+-- what `refresh` promises of a pool m, an original and an output as it was: the answer a, and the output afterwards
+pub record RefreshIs (m original before : List ℕ) (a : Answer) (after : List ℕ) : Type 0 where
+  pub fit : (A : Arrangement) → Image m A → outcome a after ≡ refreshedOf (stateOf A) (parse original) before
+  pub unfit : (Fit m → ⊥) → outcome a after ≡ outcome unfitPool before
