@@ -1,0 +1,42 @@
+-- How the entry for pairs goes by the writer's core: pairs split into lows and highs, and what is written of them. No public promise
+-- cites these: what the entry promises is said by the writer's own definitions, of the pairs themselves.
+-- Assumes nothing: these are definitions.
+use Prim.Native.Nat.{ℕ, zero, suc}
+use mathlib.Core.Bool.{cond}
+use mathlib.Core.List.{List, [], _∷_, map}
+use lib.Dec.{ltb}
+use lib.ListN.{take, set, replicate}
+use Rattle.record.specs.declared.point.Scan.{Scan}
+use Rattle.record.specs.Answer.{malformed}
+use Rattle.record.specs.Reader.{lists, lowOf, highOf}
+use Rattle.writer.specs.Writer.{Outcome, recordOf, outcome, refused, writeOf}
+use Rattle.pairs.specs.declared.halves.Halves.{Halves}
+
+abbrev pub noScan : Scan
+noScan = record { low = 0; high = 0 }
+
+-- the count itself, and 8 where it is more
+abbrev pub atMost8 : ℕ → ℕ
+atMost8 count = cond (ltb 8 count) 8 count
+
+-- the first n of a list of numbers, and 0 behind its last
+unfoldable pub padded : ℕ → List ℕ → List ℕ
+padded zero xs = []
+padded (suc n) [] = 0 ∷ padded n []
+padded (suc n) (x ∷ xs) = x ∷ padded n xs
+
+abbrev pub noneYet : Halves
+noneYet = record { lows = replicate 8 0; highs = replicate 8 0 }
+
+abbrev pub stored : Halves → ℕ → Scan → Halves
+stored s i c = record { lows = set (s .lows) i (c .low); highs = set (s .highs) i (c .high) }
+
+-- the first count of the pairs, split
+abbrev pub halvesOf : ℕ → List Scan → Halves
+halvesOf count cs = record { lows = padded 8 (map lowOf (take count cs)); highs = padded 8 (map highOf (take count cs)) }
+
+-- what is written with the first count of the lows and highs: nothing of more than 8
+abbrev pub writeHalves : ℕ → List ℕ → List ℕ → List ℕ → ℕ → Halves → List ℕ → Outcome
+writeHalves snapshot kinds keys payloads count s output =
+    cond (ltb 8 count) (outcome (refused malformed) output)
+    (writeOf (recordOf snapshot (lists kinds keys payloads (take count (s .lows)) (take count (s .highs)))) output)
