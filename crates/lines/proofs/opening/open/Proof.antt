@@ -1,0 +1,61 @@
+-- `lines::open` meets its contract: the pool is created in the front of the bytes lent, which keep their length.
+-- Assumes nothing.
+use mathlib.Core.Path.{sym, refl}
+use native.Mathlib.Omega.{arith}
+use borrow.Author.Needs.{needs}
+use lib.Seq.{length-take-le}
+use Rattle.lines.proofs.opening.open.Statement.{statement}
+use Rattle.lines.proofs.opening.open.Tie as tie
+
+returns : tie.Need-returns
+returns c = (omega arith, refl)
+
+word4-requires : tie.Need-word4-requires
+word4-requires c κs = search needs
+
+word4-requires-2 : tie.Need-word4-requires-2
+word4-requires-2 c κs = search needs
+
+size-for-requires : tie.Need-size-for-requires
+size-for-requires c κs = search needs
+
+returns-2 : tie.Need-returns-2
+returns-2 c = (omega arith, refl)
+
+slice-relend-prefix-create : tie.Need-slice-relend-prefix-create
+slice-relend-prefix-create c = search needs
+
+slice-aggregate-create : tie.Need-slice-aggregate-create
+slice-aggregate-create c = sym (length-take-le _ _ (omega arith))
+
+create-requires : tie.Need-create-requires
+create-requires c κs = search needs
+
+same-length : tie.Need-same-length
+same-length c = search needs
+
+returns-3 : tie.Need-returns-3
+returns-3 c = (omega arith, refl)
+
+same-length-2 : tie.Need-same-length-2
+same-length-2 c = search needs
+
+returns-4 : tie.Need-returns-4
+returns-4 c = (omega (arith, same-length-2 c), sym (length-take-le _ _ (omega (arith, same-length-2 c))))
+
+pub open-spec : {M : Type 1} → statement M
+open-spec =
+    tie.close
+    (tie.spec
+    returns
+    word4-requires
+    word4-requires-2
+    size-for-requires
+    returns-2
+    slice-relend-prefix-create
+    slice-aggregate-create
+    create-requires
+    same-length
+    returns-3
+    same-length-2
+    returns-4)

@@ -1,0 +1,13 @@
+// WHAT THE PROGRAMS PRINT: a line for each whole record of a log, and the line that ends a log. Everything goes to standard output.
+pub mod opening;
+pub mod printing;
+pub mod whole;
+
+pub use opening::HEAD;
+pub use opening::POOL;
+pub use opening::open;
+pub use printing::print_bad_limits;
+pub use printing::print_ending;
+pub use printing::print_line;
+pub use whole::Taken;
+pub use whole::meld_whole;

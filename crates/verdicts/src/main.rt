@@ -1,0 +1,70 @@
+// THE PROGRAM: limits N and Z and a log on standard input, a line for each record on standard output, then `end` or 10; only 9 for bad
+// limits, an N above 1,000 or fewer than eight bytes. It reads a log of any length through one small buffer and prints as it goes.
+mod input;
+
+use crate::input::keep_rest;
+use crate::input::refill;
+use libc::STDIN_FILENO;
+use lines::HEAD;
+use lines::POOL;
+use lines::meld_whole;
+use lines::open;
+use lines::print_bad_limits;
+use lines::print_ending;
+ghost use Prim.Native.Nat.{_≤_};
+ghost use lib.ListN.{length};
+
+// How far the program is: the bytes held at the front of the buffer, the position of the record that begins there, and whether the last
+// read brought anything.
+struct Progress {
+    held: usize,
+    position: u64,
+    more: bool,
+}
+
+// Reads once, melds the records that are whole now, and keeps the bytes behind them. Nothing more comes at the end of the input, or where
+// the buffer is full with no whole record at its front.
+fn read_on(pool: &mut [u8], buffer: &mut [u8], held: usize, position: u64) -> Progress
+    requires { ⌜ held ≤ length (now buffer) ⌝ }
+    ensures { λ r. ⌜ r .held ≤ length (now (buffer .exit)) ⌝ }
+{
+    let filled = refill(buffer, held);
+    let taken = meld_whole(pool, &buffer[..filled], position);
+    let rest = keep_rest(buffer, taken.bytes, filled);
+    Progress {
+        held: rest,
+        position: taken.position,
+        more: filled != held,
+    }
+}
+
+// Melds the log on standard input, from where it stands, into a new pool. A proved loop has to end, so it counts its turns down from a
+// number that no run uses up.
+fn meld_input(pool: &mut [u8]) {
+    let mut space = io::buffer();
+    let buffer: &mut [u8] = &mut space;
+    let mut held = 0;
+    let mut position: u64 = 1;
+    let mut more = true;
+    let mut turns = u64::MAX;
+    while turns > 0 && more {
+        turns -= 1;
+        let progress = read_on(pool, buffer, held, position);
+        held = progress.held;
+        position = progress.position;
+        more = progress.more;
+    }
+    print_ending(held);
+}
+
+fn main() {
+    let mut pool = [0u8; POOL];
+    let mut head = [0u8; HEAD];
+    let got = io::read_full(STDIN_FILENO, &mut head);
+    let size = open(&mut pool, &head[..got]);
+    if size == 0 {
+        print_bad_limits();
+        return;
+    }
+    meld_input(&mut pool[..size]);
+}
