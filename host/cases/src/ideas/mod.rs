@@ -1,0 +1,51 @@
+//! The conformance set: small logs, one idea each, by section of document 01.
+//! The snapshot read little-endian comes first.
+
+mod conflict;
+mod easy;
+mod limits;
+mod log;
+mod looks;
+mod record;
+mod room;
+mod zone;
+
+use reference::document::log as bytes_of;
+use reference::program::join;
+use reference::Record;
+
+use crate::Case;
+
+/// Every idea, in the order of the files.
+pub fn all() -> Vec<Case> {
+    [
+        easy::all(),
+        zone::all(),
+        conflict::all(),
+        room::all(),
+        looks::all(),
+        record::all(),
+        log::all(),
+        limits::all(),
+    ]
+    .concat()
+}
+
+/// A case of an input.
+fn case(name: &str, catches: &str, input: Vec<u8>) -> Case {
+    Case {
+        name: name.to_string(),
+        catches: catches.to_string(),
+        input,
+    }
+}
+
+/// A case of limits and records.
+fn melds(name: &str, catches: &str, (n, z): (u32, u32), records: &[Record]) -> Case {
+    case(name, catches, join(n, z, &bytes_of(records)))
+}
+
+/// A case of limits and bytes, piece by piece.
+fn pieces(name: &str, catches: &str, (n, z): (u32, u32), pieces: &[&[u8]]) -> Case {
+    case(name, catches, join(n, z, &pieces.concat()))
+}

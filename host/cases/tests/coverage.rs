@@ -1,0 +1,91 @@
+//! The cases have in them what document 01 names, and catch what they say.
+
+use std::collections::BTreeSet;
+
+use cases::{all, ideas, sequence, Case};
+use compare::mistaken::{lines, Mistake};
+use reference::log::parts;
+use reference::program::{self, run, split};
+use reference::{Flaw, Record};
+
+/// Does a program with this mistake print something else for this case?
+fn shows(case: &Case, mistake: Option<Mistake>) -> bool {
+    lines(mistake, &case.input) != program::lines(&case.input)
+}
+
+#[test]
+fn the_conformance_set_catches_every_mistake() {
+    let cases = ideas::all();
+    for &mistake in Mistake::ALL {
+        let caught = cases.iter().filter(|case| shows(case, Some(mistake)));
+        let names: Vec<&str> = caught.map(|case| case.name.as_str()).collect();
+        println!("{}: {}", mistake.words(), names.join(", "));
+        assert!(!names.is_empty(), "not caught: {}", mistake.words());
+    }
+}
+
+#[test]
+fn a_third_way_to_the_answers_agrees_on_every_case() {
+    for case in all() {
+        assert!(!shows(&case, None), "{}", case.name);
+    }
+}
+
+#[test]
+fn every_answer_and_every_end_is_there() {
+    let mut seen = BTreeSet::new();
+    for case in all() {
+        match run(&case.input) {
+            Err(answer) => drop(seen.insert(answer.number())),
+            Ok(run) => {
+                seen.extend(run.verdicts.iter().map(|verdict| verdict.answer.number()));
+                seen.insert(if run.ended { 100 } else { 10 });
+            }
+        }
+    }
+    assert_eq!(
+        seen.into_iter().collect::<Vec<_>>(),
+        [0, 1, 2, 3, 4, 5, 9, 10, 100]
+    );
+}
+
+/// All but the length, which a log reader hands out right.
+#[test]
+fn every_flaw_is_there() {
+    let mut seen = BTreeSet::new();
+    for case in all() {
+        let Ok((_, log)) = split(&case.input) else {
+            continue;
+        };
+        let flaws = parts(log).0.into_iter().map(Record::parse);
+        seen.extend(flaws.filter_map(Result::err));
+    }
+    let handed_out = Flaw::ALL.into_iter().filter(|&flaw| flaw != Flaw::Length);
+    assert!(handed_out.into_iter().all(|flaw| seen.contains(&flaw)));
+}
+
+#[test]
+fn names_differ_and_fit_a_file() {
+    let mut seen = BTreeSet::new();
+    for case in all() {
+        let fits =
+            |letter: char| letter.is_ascii_lowercase() || letter.is_ascii_digit() || letter == '-';
+        assert!(case.name.chars().all(fits), "{}", case.name);
+        assert!(seen.insert(case.name.clone()), "{} twice", case.name);
+    }
+}
+
+#[test]
+fn the_whole_sequence_reads_back() {
+    let cases = all();
+    let bytes = sequence::write(cases.iter().map(|case| &case.input[..]));
+    let inputs = sequence::read(&bytes).unwrap();
+    assert!(cases
+        .iter()
+        .zip(&inputs)
+        .all(|(case, input)| case.input == *input));
+    let expected = sequence::expect(&inputs);
+    let numbered = expected.lines().filter(|line| line.starts_with("case "));
+    assert_eq!(numbered.count(), cases.len());
+    println!("{} cases, {} bytes", cases.len(), bytes.len());
+}

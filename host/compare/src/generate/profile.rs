@@ -1,0 +1,188 @@
+//! Kinds of logs.
+
+use reference::random::Random;
+
+use super::keys::universe;
+
+/// What a log is to be like. Shares are so many in a hundred.
+#[derive(Clone, Debug)]
+pub struct Profile {
+    /// N.
+    pub n: u32,
+    /// Z.
+    pub z: u32,
+    /// The number of records.
+    pub records: usize,
+    /// The keys in use, never empty.
+    pub keys: Vec<u32>,
+    /// The most points of an ordinary record.
+    pub points: usize,
+    /// Points that are puts.
+    pub puts: usize,
+    /// Points that are deletes.
+    pub deletes: usize,
+    /// Records with scans.
+    pub scans: usize,
+    /// Snapshots that are exactly p.
+    pub current: usize,
+    /// Records that are spoiled.
+    pub malformed: usize,
+    /// Records with nothing in them and snapshot p.
+    pub idle: usize,
+    /// Records as full as they can be.
+    pub full: usize,
+    /// Logs with a spoiled end.
+    pub spoiled: usize,
+}
+
+impl Profile {
+    /// A profile; tiny pools most often, since there the edges meet.
+    pub fn choose(random: &mut Random) -> Profile {
+        match random.below(100) {
+            0..=29 => Profile::tiny(random),
+            30..=51 => Profile::small(random),
+            52..=66 => Profile::tombstones(random),
+            67..=75 => Profile::wide(random),
+            76..=81 => Profile::fullest(random),
+            82..=89 => Profile::broken(random),
+            90..=93 => Profile::torn(random),
+            94..=97 => Profile::sleepy(random),
+            _ => Profile::longest_zone(random),
+        }
+    }
+
+    /// A pool of 1 to 3 keys.
+    fn tiny(random: &mut Random) -> Profile {
+        let n = random.between(1, 3);
+        let count = n as usize + 1 + random.below(4);
+        Profile {
+            n,
+            z: random.between(1, 6),
+            records: 4 + random.below(40),
+            keys: universe(count, random),
+            points: 2,
+            puts: 45,
+            deletes: 25,
+            scans: 15,
+            current: 55,
+            malformed: 3,
+            idle: 3,
+            full: 0,
+            spoiled: 8,
+        }
+    }
+
+    /// A pool of 4 to 16 keys.
+    fn small(random: &mut Random) -> Profile {
+        let n = random.between(4, 16);
+        let count = 3 + random.below(n as usize + 6);
+        Profile {
+            n,
+            z: random.between(1, 12),
+            records: 10 + random.below(70),
+            keys: universe(count, random),
+            points: 4,
+            scans: 25,
+            full: 1,
+            ..Profile::tiny(random)
+        }
+    }
+
+    /// Deletes and little room, so that tombstones come to their age.
+    fn tombstones(random: &mut Random) -> Profile {
+        let n = random.between(1, 7);
+        let count = n as usize + 1 + random.below(3);
+        Profile {
+            n,
+            z: random.between(1, 5),
+            records: 20 + random.below(60),
+            keys: universe(count, random),
+            puts: 45,
+            deletes: 45,
+            scans: 5,
+            current: 85,
+            malformed: 1,
+            ..Profile::tiny(random)
+        }
+    }
+
+    /// Pools up to the largest, filled.
+    fn wide(random: &mut Random) -> Profile {
+        let n = random.pick(&[20, 63, 64, 65, 128, 500, 999, 1_000]);
+        let count = n as usize * (50 + random.below(100)) / 100;
+        Profile {
+            n,
+            z: random.between(1, 200),
+            records: 20 + random.below(150),
+            keys: universe(count, random),
+            points: random.pick(&[4, 16, 64]),
+            puts: 60,
+            deletes: 15,
+            scans: 30,
+            current: 50,
+            full: 4,
+            ..Profile::tiny(random)
+        }
+    }
+
+    /// Records of 64 and 65 points, 8 and 9 scans.
+    fn fullest(random: &mut Random) -> Profile {
+        let n = random.pick(&[63, 64, 65, 100, 300]);
+        let count = 60 + random.below(100);
+        Profile {
+            n,
+            keys: universe(count, random),
+            records: 5 + random.below(30),
+            points: 64,
+            scans: 50,
+            current: 75,
+            malformed: 15,
+            full: 50,
+            ..Profile::tiny(random)
+        }
+    }
+
+    /// Every other record spoiled.
+    fn broken(random: &mut Random) -> Profile {
+        Profile {
+            malformed: 50,
+            scans: 45,
+            current: 70,
+            ..Profile::small(random)
+        }
+    }
+
+    /// A log whose end is always spoiled.
+    fn torn(random: &mut Random) -> Profile {
+        Profile {
+            spoiled: 100,
+            records: 1 + random.below(12),
+            ..Profile::small(random)
+        }
+    }
+
+    /// Long zones with little in them.
+    fn sleepy(random: &mut Random) -> Profile {
+        let z = random.between(20, 300);
+        Profile {
+            z,
+            records: z as usize + random.below(z as usize),
+            idle: 90,
+            current: 20,
+            ..Profile::small(random)
+        }
+    }
+
+    /// The longest zone there is, passed by a few records.
+    fn longest_zone(random: &mut Random) -> Profile {
+        let z = random.pick(&[4_094, 4_095, 4_096]);
+        Profile {
+            z,
+            records: z as usize + 10 + random.below(60),
+            idle: 97,
+            current: 10,
+            malformed: 0,
+            ..Profile::small(random)
+        }
+    }
+}

@@ -1,0 +1,142 @@
+//! One record for the state so far.
+
+use reference::random::Random;
+use reference::record::{MOST_POINTS, MOST_SCANS};
+use reference::{Point, Record, Scan, State};
+
+use super::profile::Profile;
+
+/// A record that keeps the rules, aimed at what the state makes interesting.
+pub fn make(profile: &Profile, state: &State, random: &mut Random) -> Record {
+    let full = random.percent(profile.full);
+    let points = match full {
+        true => MOST_POINTS,
+        false => random.below(profile.points + 1),
+    };
+    let scans = match random.percent(profile.scans) {
+        false => 0,
+        true if full || random.percent(10) => MOST_SCANS,
+        true => 1 + random.below(2),
+    };
+    Record {
+        snapshot: snapshot(profile, state, random),
+        points: self::points(points, profile, state, random),
+        scans: self::scans(scans, profile, state, random),
+    }
+}
+
+/// p, or a little below, or around p − Z, or around p, or anything.
+fn snapshot(profile: &Profile, state: &State, random: &mut Random) -> u32 {
+    let p = state.position();
+    let any = random.word();
+    if random.percent(profile.current) {
+        return p;
+    }
+    match random.below(12) {
+        0..=3 => p.saturating_sub(random.between(0, profile.z)),
+        4..=5 => p.saturating_sub(profile.z),
+        6 => p.saturating_sub(profile.z + 1),
+        7 => p.saturating_sub(profile.z - 1),
+        8 => p + 1,
+        9 => newest_of_some_key(state, random),
+        10 => random.between(0, p),
+        _ => random.pick(&[0, p + 2, p.swap_bytes(), u32::MAX, any]),
+    }
+}
+
+/// A kept key's write position or the one before it, where a zone begins or ends.
+fn newest_of_some_key(state: &State, random: &mut Random) -> u32 {
+    let positions: Vec<u32> = state.kept().values().map(|kept| kept.position).collect();
+    match positions.is_empty() {
+        true => 0,
+        false => random.pick(&positions) - random.between(0, 1),
+    }
+}
+
+/// A key of the universe, sometimes a kept one or a neighbour of a key.
+fn key(profile: &Profile, state: &State, random: &mut Random) -> u32 {
+    let some = random.pick(&profile.keys);
+    match random.below(20) {
+        0 => some.wrapping_add(1),
+        1 => some.wrapping_sub(1),
+        2..=4 => {
+            let kept = state.kept().range(some..).next();
+            kept.map_or(some, |(&key, _)| key)
+        }
+        _ => some,
+    }
+}
+
+/// At most so many points, keys rising.
+fn points(count: usize, profile: &Profile, state: &State, random: &mut Random) -> Vec<Point> {
+    let mut keys: Vec<u32> = (0..count).map(|_| key(profile, state, random)).collect();
+    if count == MOST_POINTS {
+        // Fill up to the full number with neighbours.
+        let start = random.pick(&profile.keys);
+        keys.extend((0..2 * count as u32).map(|index| start.wrapping_add(index)));
+    }
+    keys.sort_unstable();
+    keys.dedup();
+    keys.truncate(count);
+    let point = |key| match random.below(100) {
+        share if share < profile.puts => Point::put(key, payload(random)),
+        share if share < profile.puts + profile.deletes => Point::delete(key),
+        _ => Point::read(key),
+    };
+    keys.into_iter().map(point).collect()
+}
+
+/// Any payload, 0 often among them.
+fn payload(random: &mut Random) -> u64 {
+    match random.below(4) {
+        0 => 0,
+        1 => random.bits(),
+        2 => u64::MAX,
+        _ => u64::from(random.between(1, 999)),
+    }
+}
+
+/// At most so many scans, each above the one before it.
+fn scans(count: usize, profile: &Profile, state: &State, random: &mut Random) -> Vec<Scan> {
+    if count == 1 && random.percent(15) {
+        return vec![one_wide_scan(profile, state, random)];
+    }
+    let mut lows: Vec<u32> = (0..count).map(|_| key(profile, state, random)).collect();
+    if count == MOST_SCANS {
+        let start = random.pick(&profile.keys);
+        lows.extend((0..count as u32).map(|index| start.wrapping_add(index)));
+    }
+    lows.sort_unstable();
+    lows.dedup();
+    lows.truncate(count);
+    let mut scans: Vec<Scan> = Vec::new();
+    for (index, &low) in lows.iter().enumerate() {
+        // The highest that still leaves the next scan its low.
+        let most = lows.get(index + 1).map_or(u32::MAX, |&next| next - 1);
+        let high = match random.below(6) {
+            0 | 1 => low,
+            2 => most,
+            3 => low.saturating_add(1).min(most),
+            4 => key(profile, state, random).clamp(low, most),
+            _ => low.saturating_add(random.between(0, 20)).min(most),
+        };
+        scans.push(Scan { low, high });
+    }
+    scans
+}
+
+/// A scan from 0, to 4,294,967,295, or both.
+fn one_wide_scan(profile: &Profile, state: &State, random: &mut Random) -> Scan {
+    let key = key(profile, state, random);
+    match random.below(3) {
+        0 => Scan { low: 0, high: key },
+        1 => Scan {
+            low: key,
+            high: u32::MAX,
+        },
+        _ => Scan {
+            low: 0,
+            high: u32::MAX,
+        },
+    }
+}

@@ -1,0 +1,10 @@
+//! Logs from seeds, a program run on them, and the comparison with the
+//! reference, down to the smallest log that still differs.
+#![forbid(unsafe_code)]
+
+pub mod check;
+pub mod generate;
+pub mod mistaken;
+pub mod options;
+pub mod process;
+pub mod shrink;

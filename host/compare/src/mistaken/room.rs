@@ -1,0 +1,121 @@
+//! Room, the drop and the writes, with one mistake or none.
+
+use super::meld::{Entry, Pool};
+use super::record::Fields;
+use super::Mistake;
+
+impl Pool {
+    /// A tombstone that may go at v.
+    fn old_tombstone(&self, entry: &Entry) -> bool {
+        let v = self.p + 1;
+        let end = entry.position + self.z;
+        !entry.live
+            && match self.mistake {
+                Some(Mistake::NeverDropped) => false,
+                Some(Mistake::DroppedEarly) => end <= v + 1,
+                Some(Mistake::DroppedLate) => end < v,
+                _ => end <= v,
+            }
+    }
+
+    /// The keys of the record that need room besides these kept ones.
+    fn added(&self, record: &Fields, kept: &dyn Fn(u32) -> bool) -> usize {
+        let needs = |point: &&(u8, u32, u64)| match point.0 {
+            1 => self.has(Mistake::ReadsNeedRoom),
+            3 => !self.has(Mistake::DeletesNeedNoRoom),
+            _ => true,
+        };
+        let counted =
+            |point: &&(u8, u32, u64)| self.has(Mistake::RewritesNeedRoom) || !kept(point.1);
+        record.points.iter().filter(needs).filter(counted).count()
+    }
+
+    /// Row 3: is there room for the record?
+    pub(super) fn room(&self, record: &Fields) -> bool {
+        let stays = |entry: &Entry| match self.mistake {
+            Some(Mistake::TombstonesNeedNoRoom) => entry.live,
+            _ => !self.old_tombstone(entry),
+        };
+        let staying = self.entries.iter().filter(|entry| stays(entry)).count();
+        let kept = |key: u32| {
+            self.entries
+                .iter()
+                .any(|entry| entry.key == key && stays(entry))
+        };
+        let needed = staying + self.added(record, &kept);
+        match self.mistake {
+            Some(Mistake::RoomForOneMore) => needed <= self.n + 1,
+            Some(Mistake::RoomForOneLess) => needed < self.n || needed == 0,
+            _ => needed <= self.n,
+        }
+    }
+
+    /// The drop, then the writes.
+    pub(super) fn store(&mut self, record: &Fields) {
+        let v = self.p + 1;
+        let kept = |key: u32| self.entries.iter().any(|entry| entry.key == key);
+        let together = self.entries.len() + self.added(record, &kept);
+        let least = match self.mistake {
+            Some(Mistake::DroppedAlways) => 0,
+            Some(Mistake::DroppedWhenFull) => self.n,
+            _ => self.n + 1,
+        };
+        if together >= least {
+            let mut most = usize::MAX;
+            if self.has(Mistake::DroppedJustEnough) {
+                most = together - self.n;
+            }
+            let gone: Vec<u32> = self
+                .entries
+                .iter()
+                .filter(|entry| self.old_tombstone(entry))
+                .map(|entry| entry.key)
+                .take(most)
+                .collect();
+            self.entries.retain(|entry| !gone.contains(&entry.key));
+        }
+        for &(kind, key, payload) in &record.points {
+            if kind == 1 && !self.has(Mistake::ReadsWrite) {
+                continue;
+            }
+            let live = kind != 3 && !(payload == 0 && self.has(Mistake::ZeroPutDeletes));
+            self.write(key, v, live, kind);
+        }
+    }
+
+    /// Stores one key at v.
+    fn write(&mut self, key: u32, v: u32, live: bool, kind: u8) {
+        let place = self.entries.partition_point(|entry| entry.key < key);
+        let there = self.entries.get(place).map(|entry| entry.key) == Some(key);
+        let absent = !there || !self.entries[place].live;
+        if kind == 3 && self.has(Mistake::DeleteRemoves) {
+            self.entries.retain(|entry| entry.key != key);
+            return;
+        }
+        let lost = kind == 3 && absent && self.has(Mistake::AbsentDeleteLost);
+        if lost || kind == 1 && !there {
+            return;
+        }
+        let position = v;
+        if there {
+            let born = self.entries[place].born;
+            self.entries[place] = Entry {
+                key,
+                position,
+                born,
+                live,
+            };
+        } else {
+            let born = v;
+            self.entries.insert(
+                place,
+                Entry {
+                    key,
+                    position,
+                    born,
+                    live,
+                },
+            );
+        }
+    }
+}

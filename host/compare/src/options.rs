@@ -1,0 +1,122 @@
+//! The command line of `compare`.
+
+use std::ops::Range;
+use std::path::PathBuf;
+use std::thread;
+use std::time::{SystemTime, UNIX_EPOCH};
+
+/// What to say when the command line is not understood.
+pub const USAGE: &str = "\
+usage: compare --program PATH [--seeds FROM..TO | --fresh N] [--jobs J]
+       compare --input SEED
+
+--program PATH    the program to compare with the reference
+--seeds FROM..TO  seeds FROM to TO - 1 (default 0..2000)
+--fresh N         N seeds from the clock; they are printed
+--jobs J          so many programs at a time (default: one for each core)
+--input SEED      write the input of a seed to standard output instead";
+
+/// What is asked for.
+#[derive(Clone, Debug, PartialEq, Eq)]
+pub enum Task {
+    /// Compare a program on these seeds.
+    Compare {
+        /// The program.
+        program: PathBuf,
+        /// The seeds.
+        seeds: Range<u64>,
+        /// How many at a time.
+        jobs: usize,
+    },
+    /// Write the input of a seed.
+    Input(u64),
+}
+
+/// The task of these arguments; none if they are not understood.
+pub fn parse(arguments: &[String]) -> Option<Task> {
+    let mut program = None;
+    let mut seeds = 0..2_000;
+    let mut jobs = thread::available_parallelism().map_or(1, usize::from);
+    let mut input = None;
+    for pair in arguments.chunks(2) {
+        let [option, value] = pair else {
+            return None;
+        };
+        match option.as_str() {
+            "--program" => program = Some(PathBuf::from(value)),
+            "--seeds" => seeds = range(value)?,
+            "--fresh" => seeds = fresh(value.parse().ok()?),
+            "--jobs" => jobs = value.parse().ok().filter(|&jobs| jobs > 0)?,
+            "--input" => input = Some(value.parse().ok()?),
+            _ => return None,
+        }
+    }
+    match (program, input) {
+        (Some(program), None) => Some(Task::Compare {
+            program,
+            seeds,
+            jobs,
+        }),
+        (None, Some(seed)) => Some(Task::Input(seed)),
+        _ => None,
+    }
+}
+
+/// `FROM..TO` as a range.
+fn range(text: &str) -> Option<Range<u64>> {
+    let (from, to) = text.split_once("..")?;
+    Some(from.parse().ok()?..to.parse().ok()?)
+}
+
+/// So many seeds in a row, the first from the clock.
+fn fresh(count: u64) -> Range<u64> {
+    let clock = SystemTime::now().duration_since(UNIX_EPOCH);
+    let from = clock.map_or(0, |since| since.as_nanos() as u64) >> 8;
+    from..from.saturating_add(count)
+}
+
+#[cfg(test)]
+mod tests {
+    use super::{parse, Task};
+
+    fn arguments(line: &str) -> Option<Task> {
+        let words: Vec<String> = line.split_whitespace().map(str::to_string).collect();
+        parse(&words)
+    }
+
+    #[test]
+    fn options_are_read() {
+        let Some(Task::Compare {
+            program,
+            seeds,
+            jobs,
+        }) = arguments("--program p --seeds 3..9 --jobs 2")
+        else {
+            panic!("not understood");
+        };
+        assert_eq!((program.to_str(), seeds, jobs), (Some("p"), 3..9, 2));
+        assert_eq!(arguments("--input 7"), Some(Task::Input(7)));
+    }
+
+    #[test]
+    fn fresh_seeds_are_as_many_as_asked_for() {
+        let Some(Task::Compare { seeds, .. }) = arguments("--program p --fresh 12") else {
+            panic!("not understood");
+        };
+        assert_eq!(seeds.end - seeds.start, 12);
+    }
+
+    #[test]
+    fn anything_else_is_refused() {
+        for line in [
+            "",
+            "--program",
+            "--seeds 1..2",
+            "--program p --seeds 3",
+            "--jobs 0",
+            "x y",
+        ] {
+            assert_eq!(arguments(line), None);
+        }
+    }
+}

@@ -1,0 +1,120 @@
+//! The logs from seeds have every edge of document 01 in them, often.
+
+use std::collections::BTreeMap;
+
+use compare::generate;
+use reference::log::parts;
+use reference::program::split;
+use reference::{Answer, Limits, Record, State};
+
+/// How often each edge was met.
+type Tally = BTreeMap<&'static str, usize>;
+
+/// Counts the edges that this record meets at this state.
+fn record_edges(state: &State, part: &[u8], tally: &mut Tally) {
+    let mut add = |name, met: bool| *tally.entry(name).or_default() += usize::from(met);
+    add("65 points", part[7] == 65);
+    add("9 scans", part[8] == 9);
+    add("length 7", part.len() == 9);
+    add("length 903", part.len() == 905);
+    let Ok(record) = Record::parse(part) else {
+        return;
+    };
+    let (p, s) = (i64::from(state.position()), i64::from(record.snapshot));
+    let z = i64::from(state.limits().z());
+    add("p - s = Z", p - s == z);
+    add("p - s = Z + 1", p - s == z + 1);
+    add("s = p", s == p);
+    add("s = p + 1", s == p + 1);
+    add(
+        "nothing",
+        record.points.is_empty() && record.scans.is_empty(),
+    );
+    add("64 points", record.points.len() == 64);
+    add("8 scans", record.scans.len() == 8);
+    add("key 0", record.points.iter().any(|point| point.key == 0));
+    let highest = |point: &reference::Point| point.key == u32::MAX;
+    add("key 4,294,967,295", record.points.iter().any(highest));
+    let mut scans = record.scans.iter();
+    add(
+        "scan of one key",
+        scans.clone().any(|scan| scan.low == scan.high),
+    );
+    add(
+        "scan to the highest",
+        scans.clone().any(|scan| scan.high == u32::MAX),
+    );
+    let inside = |scan: &reference::Scan| {
+        let covered = |point: &reference::Point| (scan.low..=scan.high).contains(&point.key);
+        record.points.iter().any(covered)
+    };
+    add("scan over points", scans.any(inside));
+}
+
+/// Counts the edges of room and tombstones that this step meets.
+fn room_edges(before: &State, after: &State, answer: Answer, tally: &mut Tally) {
+    let mut add = |name, met: bool| *tally.entry(name).or_default() += usize::from(met);
+    let (limits, v) = (before.limits(), after.position());
+    let tombstones = before
+        .kept()
+        .iter()
+        .filter(|(_, kept)| kept.payload.is_none());
+    let gone = |key: &u32| !after.kept().contains_key(key);
+    for (key, kept) in tombstones {
+        let age = kept.position + limits.z();
+        add("tombstone dropped at its age", age == v && gone(key));
+        add("tombstone dropped later", age < v && gone(key));
+        add("tombstone kept beyond its age", age <= v && !gone(key));
+        let refused = answer == Answer::NoRoom;
+        add("no room a position early", age == v + 1 && refused);
+    }
+    add("N keys kept", after.kept().len() == limits.n() as usize);
+}
+
+/// Counts the edges of one log.
+fn log_edges(limits: Limits, log: &[u8], tally: &mut Tally) {
+    let (found, rest) = parts(log);
+    let mut state = State::new(limits);
+    for part in &found {
+        let before = state.clone();
+        let verdict = state.meld(part);
+        record_edges(&before, part, tally);
+        room_edges(&before, &state, verdict.answer, tally);
+    }
+    let mut add = |name, met: bool| *tally.entry(name).or_default() += usize::from(met);
+    let length = rest.first_chunk::<2>().map(|two| u16::from_be_bytes(*two));
+    add("one byte left", rest.len() == 1);
+    add("length 6", length == Some(6));
+    add("length 904", length == Some(904));
+    add(
+        "torn record",
+        length.is_some_and(|length| (7..=903).contains(&length)),
+    );
+    add("empty log", log.is_empty());
+    add("N = 1", limits.n() == 1);
+    add("N = 2", limits.n() == 2);
+    add("N = 3", limits.n() == 3);
+    add("N = 1,000", limits.n() == 1_000);
+    add("Z = 1", limits.z() == 1);
+    add("Z = 4,096", limits.z() == 4_096);
+}
+
+#[test]
+fn every_edge_is_met() {
+    let mut tally = Tally::new();
+    for seed in 0..2_000 {
+        let input = generate::input(seed);
+        *tally.entry("empty input").or_default() += usize::from(input.is_empty());
+        match split(&input) {
+            Ok((limits, log)) if log.len() < 30_000 => log_edges(limits, log, &mut tally),
+            Ok((limits, _)) => {
+                *tally.entry("Z = 4,096").or_default() += usize::from(limits.z() == 4_096);
+            }
+            Err(_) => *tally.entry("bad limits").or_default() += 1,
+        }
+    }
+    println!("{tally:#?}");
+    for (name, count) in tally {
+        assert!(count > 2, "{name} is met only {count} times");
+    }
+}

@@ -1,0 +1,48 @@
+//! The tool itself, run on a program with and without a mistake.
+
+use std::process::{Command, Output};
+
+/// `compare` with these arguments, the program under it with this mistake.
+fn compare(mistake: Option<&str>, arguments: &[&str]) -> Output {
+    let mut command = Command::new(env!("CARGO_BIN_EXE_compare"));
+    command.args(arguments).env_remove("MISTAKE");
+    if let Some(mistake) = mistake {
+        command.env("MISTAKE", mistake);
+    }
+    command.output().expect("the tool runs")
+}
+
+const PROGRAM: [&str; 2] = ["--program", env!("CARGO_BIN_EXE_mistaken")];
+
+#[test]
+fn agreement_has_status_0() {
+    for seeds in [["--seeds", "0..60"], ["--fresh", "40"]] {
+        let output = compare(None, &[PROGRAM, seeds].concat());
+        assert_eq!(output.status.code(), Some(0));
+        let text = String::from_utf8(output.stdout).unwrap();
+        assert!(text.starts_with("seeds "));
+        assert!(text.contains("no difference in "));
+    }
+}
+
+#[test]
+fn a_difference_has_status_1_and_shows_a_small_log() {
+    let arguments = [PROGRAM, ["--seeds", "0..60"], ["--jobs", "1"]].concat();
+    let output = compare(Some("AheadLate"), &arguments);
+    assert_eq!(output.status.code(), Some(1));
+    let text = String::from_utf8(output.stdout).unwrap();
+    assert!(
+        text.contains("1: s 1, nothing -> 5 ahead, looks 0"),
+        "{text}"
+    );
+    assert!(text.contains("00 07 01 00 00 00 01 00 00"));
+    assert!(text.contains("line 1 is to be `1 5 0`"));
+    assert!(text.contains("the program has  `1 0 0`"));
+}
+
+#[test]
+fn a_missing_program_or_option_has_status_2() {
+    for arguments in [&["--program", "there/is/none"][..], &[], &["--jobs"]] {
+        assert_eq!(compare(None, arguments).status.code(), Some(2));
+    }
+}

@@ -1,0 +1,26 @@
+//! Document 01 written down straight from its text: a second implementation
+//! that shares nothing with the proved one. Obvious before quick.
+//!
+//! From the bottom up: `answer`, `flaw`, `record`, `lists`, `log`, `tree`, `state`,
+//! `refresh`, `program`. `document` has the examples of document 01, `words`
+//! puts inputs into words, `random` is for tests and for the tool that compares.
+#![forbid(unsafe_code)]
+
+pub mod answer;
+pub mod document;
+pub mod flaw;
+pub mod lists;
+pub mod log;
+pub mod program;
+pub mod random;
+pub mod record;
+pub mod refresh;
+pub mod state;
+pub mod tree;
+pub mod words;
+
+pub use answer::Answer;
+pub use flaw::Flaw;
+pub use log::{LogReader, Step};
+pub use record::{Kind, Point, Record, Scan};
+pub use state::{Limits, State, Verdict};

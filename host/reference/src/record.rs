@@ -1,0 +1,229 @@
+//! The record of document 01, "The record": read and written by its table.
+
+use crate::flaw::Flaw;
+
+/// The most points a record may have.
+pub const MOST_POINTS: usize = 64;
+/// The most scans a record may have.
+pub const MOST_SCANS: usize = 8;
+/// The least number of bytes after the length field.
+pub const LEAST_LENGTH: usize = 7;
+/// The largest number of bytes after the length field.
+pub const MOST_LENGTH: usize = 903;
+
+/// What a point does with its key.
+#[derive(Clone, Copy, Debug, PartialEq, Eq)]
+pub enum Kind {
+    /// 1: read.
+    Read,
+    /// 2: put, with the payload.
+    Put(u64),
+    /// 3: delete.
+    Delete,
+}
+
+/// A key and what is done with it.
+#[derive(Clone, Copy, Debug, PartialEq, Eq)]
+pub struct Point {
+    /// The key named.
+    pub key: u32,
+    /// Read, put or delete.
+    pub kind: Kind,
+}
+
+/// A range of keys, both ends covered.
+#[derive(Clone, Copy, Debug, PartialEq, Eq)]
+pub struct Scan {
+    /// The lowest key covered.
+    pub low: u32,
+    /// The highest key covered.
+    pub high: u32,
+}
+
+/// A record, as its fields.
+#[derive(Clone, Debug, Default, PartialEq, Eq)]
+pub struct Record {
+    /// The snapshot s.
+    pub snapshot: u32,
+    /// At most 64 points, keys rising strictly.
+    pub points: Vec<Point>,
+    /// At most 8 scans, each above the one before it.
+    pub scans: Vec<Scan>,
+}
+
+impl Point {
+    /// A read of `key`.
+    pub fn read(key: u32) -> Point {
+        let kind = Kind::Read;
+        Point { key, kind }
+    }
+
+    /// A put of `payload` at `key`.
+    pub fn put(key: u32, payload: u64) -> Point {
+        let kind = Kind::Put(payload);
+        Point { key, kind }
+    }
+
+    /// A delete of `key`.
+    pub fn delete(key: u32) -> Point {
+        let kind = Kind::Delete;
+        Point { key, kind }
+    }
+
+    /// Is it a put or a delete?
+    pub fn writes(&self) -> bool {
+        self.kind != Kind::Read
+    }
+}
+
+impl Record {
+    /// The first rule on the lists that this record breaks, if any.
+    pub fn flaw(&self) -> Option<Flaw> {
+        if self.points.len() > MOST_POINTS {
+            return Some(Flaw::PointCount);
+        }
+        if self.scans.len() > MOST_SCANS {
+            return Some(Flaw::ScanCount);
+        }
+        if self.points.windows(2).any(|two| two[0].key >= two[1].key) {
+            return Some(Flaw::KeyOrder);
+        }
+        if self.scans.iter().any(|scan| scan.low > scan.high) {
+            return Some(Flaw::ScanEnds);
+        }
+        if self.scans.windows(2).any(|two| two[0].high >= two[1].low) {
+            return Some(Flaw::ScanOrder);
+        }
+        None
+    }
+
+    /// The record these bytes are, or why they are none.
+    pub fn parse(bytes: &[u8]) -> Result<Record, Flaw> {
+        let mut rest = bytes;
+        let length = u16::from_be_bytes(take(&mut rest).ok_or(Flaw::Length)?);
+        if rest.len() != usize::from(length) {
+            return Err(Flaw::Length);
+        }
+        let record = Record::parse_body(&mut rest)?;
+        if !rest.is_empty() {
+            return Err(Flaw::BytesLeft);
+        }
+        match record.flaw() {
+            Some(flaw) => Err(flaw),
+            None => Ok(record),
+        }
+    }
+
+    /// The fields after the length, taken off the front of `rest`.
+    fn parse_body(rest: &mut &[u8]) -> Result<Record, Flaw> {
+        let [version] = take(rest).ok_or(Flaw::BytesMissing)?;
+        if version != 1 {
+            return Err(Flaw::Version);
+        }
+        let snapshot = u32::from_be_bytes(take(rest).ok_or(Flaw::BytesMissing)?);
+        let [points, scans] = take(rest).ok_or(Flaw::BytesMissing)?;
+        if usize::from(points) > MOST_POINTS {
+            return Err(Flaw::PointCount);
+        }
+        if usize::from(scans) > MOST_SCANS {
+            return Err(Flaw::ScanCount);
+        }
+        let points = (0..points)
+            .map(|_| parse_point(rest))
+            .collect::<Result<_, _>>()?;
+        let scans = (0..scans)
+            .map(|_| parse_scan(rest))
+            .collect::<Result<_, _>>()?;
+        Ok(Record {
+            snapshot,
+            points,
+            scans,
+        })
+    }
+
+    /// The bytes of the table. Rules are not looked at, so that broken records
+    /// can be made too; see `written`.
+    pub fn to_bytes(&self) -> Vec<u8> {
+        let mut body = vec![1];
+        body.extend(self.snapshot.to_be_bytes());
+        body.push(self.points.len() as u8);
+        body.push(self.scans.len() as u8);
+        for point in &self.points {
+            let (number, payload) = match point.kind {
+                Kind::Read => (1, None),
+                Kind::Put(payload) => (2, Some(payload)),
+                Kind::Delete => (3, None),
+            };
+            body.push(number);
+            body.extend(point.key.to_be_bytes());
+            if let Some(payload) = payload {
+                body.extend(payload.to_be_bytes());
+            }
+        }
+        for scan in &self.scans {
+            body.extend(scan.low.to_be_bytes());
+            body.extend(scan.high.to_be_bytes());
+        }
+        with_length(&body)
+    }
+
+    /// The bytes of a record that keeps the rules, or the rule it breaks.
+    pub fn written(&self) -> Result<Vec<u8>, Flaw> {
+        match self.flaw() {
+            Some(flaw) => Err(flaw),
+            None => Ok(self.to_bytes()),
+        }
+    }
+
+    /// Does a point name this key or a scan cover it?
+    pub fn touches(&self, key: u32) -> bool {
+        self.touches_any(key, key)
+    }
+
+    /// Does anything the record names or scans lie in `low` to `high`?
+    pub fn touches_any(&self, low: u32, high: u32) -> bool {
+        let named = self
+            .points
+            .iter()
+            .any(|point| low <= point.key && point.key <= high);
+        let scanned = self
+            .scans
+            .iter()
+            .any(|scan| scan.low <= high && low <= scan.high);
+        named || scanned
+    }
+}
+
+/// The body with its length in front.
+pub fn with_length(body: &[u8]) -> Vec<u8> {
+    let mut bytes = (body.len() as u16).to_be_bytes().to_vec();
+    bytes.extend(body);
+    bytes
+}
+
+/// Takes the first bytes off `rest`, if there are enough.
+fn take<const COUNT: usize>(rest: &mut &[u8]) -> Option<[u8; COUNT]> {
+    let (front, back) = rest.split_first_chunk::<COUNT>()?;
+    *rest = back;
+    Some(*front)
+}
+
+/// One point: kind, key, and for a put the payload.
+fn parse_point(rest: &mut &[u8]) -> Result<Point, Flaw> {
+    let [number] = take(rest).ok_or(Flaw::BytesMissing)?;
+    let key = u32::from_be_bytes(take(rest).ok_or(Flaw::BytesMissing)?);
+    let kind = match number {
+        1 => Kind::Read,
+        2 => Kind::Put(u64::from_be_bytes(take(rest).ok_or(Flaw::BytesMissing)?)),
+        3 => Kind::Delete,
+        _ => return Err(Flaw::Kind),
+    };
+    Ok(Point { key, kind })
+}
+
+/// One scan: low, high.
+fn parse_scan(rest: &mut &[u8]) -> Result<Scan, Flaw> {
+    let low = u32::from_be_bytes(take(rest).ok_or(Flaw::BytesMissing)?);
+    let high = u32::from_be_bytes(take(rest).ok_or(Flaw::BytesMissing)?);
+    Ok(Scan { low, high })
+}

@@ -1,0 +1,240 @@
+//! The state and the verdict: document 01, "The state" and "The verdict".
+
+use std::collections::{BTreeMap, BTreeSet};
+
+use crate::answer::Answer;
+use crate::record::{Kind, Record};
+use crate::tree::Tree;
+
+/// N and Z, each in its range.
+#[derive(Clone, Copy, Debug, PartialEq, Eq)]
+pub struct Limits {
+    n: u32,
+    z: u32,
+}
+
+impl Limits {
+    /// N from 1 to 65,536 and Z from 1 to 4,096; else bad limits.
+    pub fn new(n: u32, z: u32) -> Result<Limits, Answer> {
+        if (1..=65_536).contains(&n) && (1..=4_096).contains(&z) {
+            Ok(Limits { n, z })
+        } else {
+            Err(Answer::BadLimits)
+        }
+    }
+
+    /// N, the most keys kept.
+    pub fn n(&self) -> u32 {
+        self.n
+    }
+
+    /// Z, the longest zone.
+    pub fn z(&self) -> u32 {
+        self.z
+    }
+}
+
+/// What is kept of a key.
+#[derive(Clone, Copy, Debug, PartialEq, Eq)]
+pub struct Kept {
+    /// The position of its last committed write.
+    pub position: u32,
+    /// Its payload, or none for a tombstone.
+    pub payload: Option<u64>,
+}
+
+/// A write of a committed record.
+#[derive(Clone, Copy, Debug, PartialEq, Eq)]
+pub struct Write {
+    /// The record's position.
+    pub position: u32,
+    /// The key put or deleted.
+    pub key: u32,
+}
+
+/// An answer and the looks made for it.
+#[derive(Clone, Copy, Debug, PartialEq, Eq)]
+pub struct Verdict {
+    /// The answer of the table.
+    pub answer: Answer,
+    /// The looks of the conflict search.
+    pub looks: u32,
+}
+
+/// The state at a position, with every committed write that led to it.
+#[derive(Clone, Debug, PartialEq, Eq)]
+pub struct State {
+    limits: Limits,
+    position: u32,
+    kept: BTreeMap<u32, Kept>,
+    committed: Vec<Write>,
+}
+
+impl State {
+    /// A new pool's state: p = 0 and no keys.
+    pub fn new(limits: Limits) -> State {
+        State::empty_at(limits, 0)
+    }
+
+    /// No keys at position p, as a log of records without writes leaves it.
+    pub fn empty_at(limits: Limits, position: u32) -> State {
+        State {
+            limits,
+            position,
+            kept: BTreeMap::new(),
+            committed: Vec::new(),
+        }
+    }
+
+    /// N and Z.
+    pub fn limits(&self) -> Limits {
+        self.limits
+    }
+
+    /// The position p.
+    pub fn position(&self) -> u32 {
+        self.position
+    }
+
+    /// The kept keys.
+    pub fn kept(&self) -> &BTreeMap<u32, Kept> {
+        &self.kept
+    }
+
+    /// The payload and write position of a key; none if it is absent, which is
+    /// never written or a tombstone.
+    pub fn lookup(&self, key: u32) -> Option<(u64, u32)> {
+        let kept = self.kept.get(&key)?;
+        kept.payload.map(|payload| (payload, kept.position))
+    }
+
+    /// Decides the record at p + 1 and leaves behind what the table says.
+    pub fn meld(&mut self, bytes: &[u8]) -> Verdict {
+        if self.position == u32::MAX {
+            return Verdict {
+                answer: Answer::PositionsUsedUp,
+                looks: 0,
+            };
+        }
+        let verdict = match self.admit(bytes) {
+            Err(answer) => Verdict { answer, looks: 0 },
+            Ok(record) => {
+                let answer = self.decide(&record);
+                let looks = self.looks(&record);
+                if answer == Answer::Committed {
+                    self.store(&record);
+                }
+                Verdict { answer, looks }
+            }
+        };
+        self.position += 1;
+        verdict
+    }
+
+    /// Rows 4, 5 and 2: the record, if none of them applies.
+    pub fn admit(&self, bytes: &[u8]) -> Result<Record, Answer> {
+        let record = Record::parse(bytes).map_err(|_| Answer::Malformed)?;
+        if record.snapshot > self.position {
+            return Err(Answer::Ahead);
+        }
+        if self.position - record.snapshot > self.limits.z {
+            return Err(Answer::TooOld);
+        }
+        Ok(record)
+    }
+
+    /// Rows 1, 3 and 0, for a record that was admitted.
+    fn decide(&self, record: &Record) -> Answer {
+        if self.conflict(record) {
+            Answer::Conflict
+        } else if self.needed(record) > self.limits.n as usize {
+            Answer::NoRoom
+        } else {
+            Answer::Committed
+        }
+    }
+
+    /// Row 1, word for word: a key named or covered was written by a committed
+    /// record at s + 1 to p.
+    pub fn conflict(&self, record: &Record) -> bool {
+        let zone = self
+            .committed
+            .iter()
+            .rev()
+            .take_while(|write| write.position > record.snapshot);
+        zone.into_iter().any(|write| record.touches(write.key))
+    }
+
+    /// Row 3's count: live keys, tombstones w with w + Z > v, and the keys this
+    /// record writes, each key once.
+    fn needed(&self, record: &Record) -> usize {
+        let staying = self
+            .kept
+            .iter()
+            .filter(|(_, kept)| !self.old_tombstone(kept));
+        let mut keys: BTreeSet<u32> = staying.map(|(&key, _)| key).collect();
+        keys.extend(written_keys(record));
+        keys.len()
+    }
+
+    /// A tombstone w with w + Z ≤ v, where v is p + 1.
+    fn old_tombstone(&self, kept: &Kept) -> bool {
+        let v = u64::from(self.position) + 1;
+        kept.payload.is_none() && u64::from(kept.position) + u64::from(self.limits.z) <= v
+    }
+
+    /// The looks of the conflict search in the tree of the kept keys.
+    pub fn looks(&self, record: &Record) -> u32 {
+        self.search(record).0
+    }
+
+    /// The looks, and whether the walk ends at a conflict. Row 1 is decided
+    /// without it; that the two agree is for tests to see.
+    pub fn search(&self, record: &Record) -> (u32, bool) {
+        let keys: Vec<(u32, u32)> = self
+            .kept
+            .iter()
+            .map(|(&key, kept)| (key, kept.position))
+            .collect();
+        Tree::build(&keys).map_or((0, false), |tree| tree.search(record))
+    }
+
+    /// The drop, if it is needed, then the writes at v.
+    fn store(&mut self, record: &Record) {
+        let mut together: BTreeSet<u32> = self.kept.keys().copied().collect();
+        together.extend(written_keys(record));
+        if together.len() > self.limits.n as usize {
+            let old: Vec<u32> = self
+                .kept
+                .iter()
+                .filter(|(_, kept)| self.old_tombstone(kept))
+                .map(|(&key, _)| key)
+                .collect();
+            for key in old {
+                self.kept.remove(&key);
+            }
+        }
+        let position = self.position + 1;
+        for point in &record.points {
+            let payload = match point.kind {
+                Kind::Read => continue,
+                Kind::Put(payload) => Some(payload),
+                Kind::Delete => None,
+            };
+            self.kept.insert(point.key, Kept { position, payload });
+            self.committed.push(Write {
+                position,
+                key: point.key,
+            });
+        }
+    }
+}
+
+/// The keys a record puts or deletes.
+fn written_keys(record: &Record) -> impl Iterator<Item = u32> + '_ {
+    record
+        .points
+        .iter()
+        .filter(|point| point.writes())
+        .map(|point| point.key)
+}

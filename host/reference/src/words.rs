@@ -1,0 +1,60 @@
+//! An input in hex and in words, with the verdicts, for people to read.
+
+use crate::log::parts;
+use crate::program::{run, split};
+use crate::record::{Kind, Record};
+
+/// Bytes as pairs of hex digits with single spaces.
+pub fn hex(bytes: &[u8]) -> String {
+    let pairs: Vec<String> = bytes.iter().map(|byte| format!("{byte:02X}")).collect();
+    pairs.join(" ")
+}
+
+/// A record as in document 01's table, or why the bytes are none.
+pub fn record_words(bytes: &[u8]) -> String {
+    let record = match Record::parse(bytes) {
+        Ok(record) => record,
+        Err(flaw) => return format!("not a record: {flaw}"),
+    };
+    let mut words = format!("s {}", record.snapshot);
+    for point in &record.points {
+        words += &match point.kind {
+            Kind::Read => format!(", read {}", point.key),
+            Kind::Put(payload) => format!(", put {} = {payload}", point.key),
+            Kind::Delete => format!(", delete {}", point.key),
+        };
+    }
+    for scan in &record.scans {
+        words += &format!(", scan {} to {}", scan.low, scan.high);
+    }
+    if record.points.is_empty() && record.scans.is_empty() {
+        words += ", nothing";
+    }
+    words
+}
+
+/// A whole input: limits, each record with its verdict, and what is at the end.
+pub fn input_words(input: &[u8]) -> String {
+    let (Ok((limits, log)), Ok(run)) = (split(input), run(input)) else {
+        return format!("bad limits\n    {}\n", hex(input));
+    };
+    let mut text = format!(
+        "N = {}, Z = {}\n    {}\n",
+        limits.n(),
+        limits.z(),
+        hex(&input[..8])
+    );
+    let (parts, rest) = parts(log);
+    for (index, (part, verdict)) in parts.iter().zip(&run.verdicts).enumerate() {
+        let (answer, looks) = (verdict.answer, verdict.looks);
+        text += &format!("{}: {}", index + 1, record_words(part));
+        text += &format!(" -> {} {}, looks {looks}\n", answer.number(), answer.name());
+        text += &format!("    {}\n", hex(part));
+    }
+    if run.ended {
+        text += "end\n";
+    } else {
+        text += &format!("then 10 broken log\n    {}\n", hex(rest));
+    }
+    text
+}

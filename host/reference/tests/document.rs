@@ -1,0 +1,121 @@
+//! Document 01's eleven rows, two byte strings, edges and easy mistakes.
+
+use reference::document::{self, log, record, scanning};
+use reference::program::{join, lines, run};
+use reference::{Answer, Limits, Point, Record, State};
+
+/// The answers and looks for a log.
+fn verdicts(n: u32, z: u32, records: &[Record]) -> Vec<(u8, u32)> {
+    let run = run(&join(n, z, &log(records))).unwrap();
+    assert!(run.ended);
+    let pairs = run.verdicts.iter();
+    pairs
+        .map(|verdict| (verdict.answer.number(), verdict.looks))
+        .collect()
+}
+
+/// Only the answers.
+fn answers(n: u32, z: u32, records: &[Record]) -> Vec<u8> {
+    let verdicts = verdicts(n, z, records);
+    verdicts.into_iter().map(|(answer, _)| answer).collect()
+}
+
+#[test]
+fn the_eleven_rows() {
+    let found = verdicts(document::N, document::Z, &document::records());
+    assert_eq!(found, document::VERDICTS);
+    let state = run(&document::input()).unwrap().state;
+    assert_eq!(
+        state.kept().keys().copied().collect::<Vec<_>>(),
+        [10, 30, 40]
+    );
+    assert_eq!(state.lookup(10), Some((100, 1)));
+    assert_eq!(state.lookup(20), None);
+    assert_eq!(state.lookup(40), Some((400, 9)));
+}
+
+#[test]
+fn the_eleven_lines() {
+    let expected =
+        "1 0 0\n2 1 2\n3 0 1\n4 1 5\n5 0 1\n6 3 1\n7 1 4\n8 2 0\n9 0 1\n10 5 0\n11 0 1\n";
+    assert_eq!(lines(&document::input()), format!("{expected}end\n"));
+}
+
+#[test]
+fn the_two_byte_strings() {
+    let read = record(1, &[Point::read(30)]);
+    let put = scanning(1, &[Point::put(30, 300)], &[(11, 19)]);
+    assert_eq!(read.written().unwrap(), document::READ_30);
+    assert_eq!(put.written().unwrap(), document::PUT_30_SCAN);
+    assert_eq!(Record::parse(&document::READ_30), Ok(read));
+    assert_eq!(Record::parse(&document::PUT_30_SCAN), Ok(put));
+}
+
+#[test]
+fn an_aborted_record_is_no_writer() {
+    let mut records = document::records();
+    records[2] = record(1, &[Point::read(10)]);
+    assert_eq!(answers(3, 4, &records[..3]), [0, 1, 0]);
+}
+
+#[test]
+fn a_tombstone_is_not_dropped_a_position_early() {
+    let mut records = document::records();
+    records[7] = record(7, &[Point::put(40, 400)]);
+    assert_eq!(answers(3, 4, &records[..8])[7], 3);
+    records[7] = document::records()[7].clone();
+    assert_eq!(answers(3, 4, &records[..9])[8], 0);
+}
+
+#[test]
+fn edges_of_the_zone() {
+    let empty = |s| record(s, &[]);
+    let log = [empty(0), empty(0), empty(0), empty(0)];
+    assert_eq!(answers(1, 2, &log), [0, 0, 0, 2]);
+    assert_eq!(answers(1, 2, &[empty(0), empty(1), empty(3)]), [0, 0, 5]);
+}
+
+#[test]
+fn edges_of_the_room() {
+    let puts = |count| record(0, &(0..count).map(|k| Point::put(k, 1)).collect::<Vec<_>>());
+    assert_eq!(answers(3, 4, &[puts(3)]), [0]);
+    assert_eq!(answers(3, 4, &[puts(4)]), [3]);
+    assert_eq!(answers(1, 4, &[record(0, &[Point::delete(7)])]), [0]);
+    let second = record(1, &[Point::put(8, 0)]);
+    assert_eq!(
+        answers(1, 4, &[record(0, &[Point::delete(7)]), second]),
+        [0, 3]
+    );
+}
+
+#[test]
+fn only_9_for_bad_limits() {
+    for length in 0..8 {
+        assert_eq!(lines(&document::input()[..length]), "9\n");
+    }
+    for (n, z) in [(0, 4), (1_001, 4), (65_536, 4), (3, 0), (3, 4_097)] {
+        assert_eq!(lines(&join(n, z, &document::READ_30)), "9\n");
+    }
+    for (n, z) in [(1, 1), (1_000, 4_096)] {
+        assert_eq!(lines(&join(n, z, &[])), "end\n");
+    }
+}
+
+#[test]
+fn limits_of_a_pool() {
+    assert!(Limits::new(65_536, 4_096).is_ok());
+    for (n, z) in [(0, 1), (65_537, 1), (1, 0), (1, 4_097)] {
+        assert_eq!(Limits::new(n, z), Err(Answer::BadLimits));
+    }
+}
+
+#[test]
+fn positions_used_up() {
+    let mut state = State::empty_at(Limits::new(1, 1).unwrap(), u32::MAX - 1);
+    let last = record(u32::MAX - 1, &[Point::put(5, 6)]).to_bytes();
+    assert_eq!(state.meld(&last).answer, Answer::Committed);
+    assert_eq!(state.lookup(5), Some((6, u32::MAX)));
+    let before = state.clone();
+    assert_eq!(state.meld(&last).answer, Answer::PositionsUsedUp);
+    assert_eq!(state, before);
+}

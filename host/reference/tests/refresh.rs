@@ -1,0 +1,84 @@
+//! Refresh and the record in force, case by case.
+
+use reference::document::record;
+use reference::refresh::{in_force, refresh};
+use reference::{Answer, Limits, Point, State};
+
+/// N = 3, Z = 2, after put 10 at position 1 and two empty records.
+fn state() -> State {
+    let mut state = State::new(Limits::new(3, 2).unwrap());
+    state.meld(&record(0, &[Point::put(10, 1)]).to_bytes());
+    state.meld(&record(1, &[]).to_bytes());
+    state.meld(&record(2, &[]).to_bytes());
+    state
+}
+
+#[test]
+fn a_passing_record_gets_the_snapshot_p() {
+    let old = record(1, &[Point::read(10), Point::put(20, 7)]).to_bytes();
+    let new = record(3, &[Point::read(10), Point::put(20, 7)]).to_bytes();
+    let mut out = vec![9; old.len() + 2];
+    assert_eq!(refresh(&state(), &old, &mut out), Answer::Committed);
+    assert_eq!(out, [&new[..], &[9, 9]].concat());
+    assert_eq!(in_force(Answer::Committed, &old, &out), new);
+}
+
+#[test]
+fn refusals_leave_the_output_untouched() {
+    let mut conflicting = state();
+    conflicting.meld(&record(3, &[Point::put(10, 2)]).to_bytes());
+    let old = |s| record(s, &[Point::read(10)]).to_bytes();
+    let broken = &old(3)[..5];
+    let rows = [
+        (broken, Answer::Malformed),
+        (&old(5)[..], Answer::Ahead),
+        (&old(1)[..], Answer::TooOld),
+        (&old(3)[..], Answer::Conflict),
+    ];
+    for (bytes, answer) in rows {
+        for room in [0, 20] {
+            let mut out = vec![9; room];
+            assert_eq!(refresh(&conflicting, bytes, &mut out), answer);
+            assert_eq!(out, vec![9; room]);
+            let expected = if answer == Answer::Ahead { bytes } else { &[] };
+            assert_eq!(in_force(answer, bytes, &out), expected);
+        }
+    }
+    let mut short = vec![9; old(4).len() - 1];
+    assert_eq!(
+        refresh(&conflicting, &old(4), &mut short),
+        Answer::OutputShort
+    );
+    assert!(short.iter().all(|&byte| byte == 9));
+}
+
+#[test]
+fn refresh_does_not_ask_for_room() {
+    let crowded = record(3, &(20..24).map(|k| Point::put(k, 1)).collect::<Vec<_>>()).to_bytes();
+    let mut out = vec![0; crowded.len()];
+    assert_eq!(refresh(&state(), &crowded, &mut out), Answer::Committed);
+    assert_eq!(state().meld(&out).answer, Answer::NoRoom);
+}
+
+#[test]
+fn the_last_position_does_not_stop_a_refresh() {
+    let state = State::empty_at(Limits::new(1, 1).unwrap(), u32::MAX);
+    let old = record(u32::MAX - 1, &[]).to_bytes();
+    let mut out = [0; 9];
+    assert_eq!(refresh(&state, &old, &mut out), Answer::Committed);
+    assert_eq!(out[..], record(u32::MAX, &[]).to_bytes());
+}
+
+#[test]
+fn in_force_is_empty_when_the_log_rule_finds_nothing() {
+    let original = record(1, &[]).to_bytes();
+    let torn = &original[..8];
+    assert!(in_force(Answer::Committed, &original, torn).is_empty());
+    assert!(in_force(Answer::Committed, &original, &[]).is_empty());
+    assert_eq!(in_force(Answer::Ahead, &original, torn), original);
+    for answer in Answer::ALL {
+        let part = in_force(answer, &original, torn);
+        assert_eq!(part.is_empty(), answer != Answer::Ahead);
+        assert_eq!(part.as_ptr(), original.as_ptr());
+    }
+}
