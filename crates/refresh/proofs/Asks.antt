@@ -91,6 +91,7 @@ module _ (bs : List ℕ) (bytes : Bytes bs) (before after : Lists) (room : Roomy
   abbrev readingOf : Rec → Reading
   readingOf r = record { answer = committed; snapshot = r .snapshot; points = length (r .points); scans = length (r .scans) }
 
+  -- a record was read
   was-read : (r : Rec) → parse bs ≡ some r → outcome a after ≡ outcome (readingOf r) (filled r before)
   unfolding readOf
   was-read r p = e ∙ simp (p, finds-room r (bytesOf-parse bs r bytes p .0))

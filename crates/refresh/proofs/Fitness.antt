@@ -18,14 +18,17 @@ two-values : {P : Type 0} (b : Bool) → b ≡ true → b ≡ false → P
 two-values b e f = let z : _≡_ {A = ℕ} 0 1 = cc in absurd (omega arith)
 
 module _ (m : List ℕ) (b : Bool) (decides : Decides (Fit m) b) where
+  -- past the test the pool is fit
   pub known-fit : not b ≡ false → Fit m
   known-fit h = decides .sound (not-false b h)
 
   module _ (original before : List ℕ) where
+    -- 7
     pub returns-unfit : not b ≡ true → RefreshIs m original before unfitPool before
     returns-unfit h =
         record { fit = λ A i. two-values b (decides .complete (record { arrangement = A; image = i })) (not-true b h); unfit = λ _. refl }
 
+    -- the answer of `refresh_fit`
     pub returns-fit : not b ≡ false → (a : Answer) (after : List ℕ)
         → ((A : Arrangement) → Image m A → outcome a after ≡ refreshedOf (stateOf A) (parse original) before) → RefreshIs m original before a after
     returns-fit h a after f = record { fit = f; unfit = λ n. absurd (n (known-fit h)) }

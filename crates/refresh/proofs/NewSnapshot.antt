@@ -35,10 +35,11 @@ whole n x rest = bigEndian 2 n ++ (version ∷ (x ++ rest))
 apart : (n : ℕ) (x rest t : List ℕ) → whole n x rest ++ t ≡ (bigEndian 2 n ++ (version ∷ [])) ++ (x ++ (rest ++ t))
 apart n x rest t = simp append-assoc
 
--- the snapshot does not change the size
+-- the snapshot does not change the length
 pub same-body : (p : ℕ) (r : Rec) → length (bodyBytes (at p r)) ≡ length (bodyBytes r)
 same-body p r = body-size (at p r) ∙ sym (body-size r)
 
+-- nor the size of the whole
 pub same-size : (p : ℕ) (r : Rec) → length (bytesOf (at p r)) ≡ length (bytesOf r)
 same-size p r = omega (arith, whole-size (at p r), whole-size r, same-body p r)
 

@@ -17,18 +17,20 @@ by-fitness : {P : Type 0} (m : List ℕ) → Dec P → (Fit m → P) → ((Fit m
 by-fitness m (yes p) f g = p
 by-fitness m (no n) f g = g (λ x. n (f x))
 
--- equal answers are told by their numbers, equal bytes one by one
+-- equal answers are told by their numbers
 same-answer : (a b : Answer) → Dec (a ≡ b)
 same-answer a b = map-dec (λ (e : a .number ≡ b .number). ap (λ (n : ℕ). record { number = n }) e) (λ (e : a ≡ b). ap (λ (x : Answer). x .number) e) (ℕ-discrete (a .number) (b .number))
 
+-- equal bytes one by one
 same-bytes : (x y : List ℕ) → Dec (x ≡ y)
 same-bytes x y = List-discrete ℕ-discrete x y
 
 module _ (m original before : List ℕ) where
-  -- one outcome in either case
+  -- one outcome if the pool is fit
   meets : (a b : Answer) (x y : List ℕ) → RefreshIs m original before a x → RefreshIs m original before b y → Fit m → outcome a x ≡ outcome b y
   meets a b x y r s f = r .fit (f .arrangement) (f .image) ∙ sym (s .fit (f .arrangement) (f .image))
 
+  -- one outcome if it is not
   misses : (a b : Answer) (x y : List ℕ) → RefreshIs m original before a x → RefreshIs m original before b y → (Fit m → ⊥) → outcome a x ≡ outcome b y
   misses a b x y r s n = r .unfit n ∙ sym (s .unfit n)
 

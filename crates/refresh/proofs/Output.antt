@@ -76,30 +76,38 @@ pub record Refreshable (S : State) (original before : List ℕ) : Type 0 where
 
 module _ (S : State) (last : S .p ≤ lastPosition) (original before : List ℕ) (y : Bytes original) (a : Answer) (after : List ℕ)
     (e : outcome a after ≡ refreshedOf S (parse original) before) where
+  -- a record was refreshed
   went : a .number ≡ 0 → Goes S (parse original)
   went z = goes S (parse original) (left-zero before a after (refresh S (parse original)) e z)
 
   module _ (z : a .number ≡ 0) (g : Goes S (parse original)) where
+    -- the original is its bytes
     lent : Valid (g .r) × (original ≡ bytesOf (g .r))
     lent = bytesOf-parse original (g .r) y (g .is)
 
+    -- the new bytes are as many
     size : length (bytesOf (at (S .p) (g .r))) ≡ length original
     size = same-size (S .p) (g .r) ∙ ap length (sym (lent .1))
 
+    -- they stand at the front
     there : (length (bytesOf (at (S .p) (g .r))) ≤ length before) × (after ≡ front (bytesOf (at (S .p) (g .r))) before)
     there = left-front before a after (at (S .p) (g .r)) (e ∙ ap (λ (x : Refreshed). leftBy x before) (g .does)) z
 
+    -- as many bytes of the output are the new record
     front-bytes : take (length original) after ≡ bytesOf (at (S .p) (g .r))
     front-bytes = rw (there .1) (take-at (bytesOf (at (S .p) (g .r))) _ (length original) size)
 
+    -- which is valid
     front-valid : Valid (at (S .p) (g .r))
     front-valid = refreshed-valid S last (lent .0) (ap (refresh S) (sym (g .is)) ∙ g .does)
 
+    -- the bytes outside the snapshot are the original's
     front-others : (i : ℕ) → i < length original → (i < 3) ⊎ (7 ≤ i) → getD after i 0 ≡ getD original i 0
     front-others i h w =
         ap (λ (l : List ℕ). getD l i 0) (there .1) ∙ List·getD-append (bytesOf (at (S .p) (g .r))) _ 0 i (omega (arith, size))
         ∙ others-as-before (S .p) (g .r) i w ∙ ap (λ (l : List ℕ). getD l i 0) (sym (lent .1))
 
+    -- all of it
     front-is : FrontIs (S .p) original before after
     front-is = record {
       r = g .r;

@@ -49,6 +49,7 @@ pub record Goes (S : State) (m : Option Rec) : Type 0 where
   pub is : m ≡ some r
   pub does : refresh S m ≡ done (at (S .p) r)
 
+-- answer 0 means that
 pub goes : (S : State) (m : Option Rec) → answerTo (refresh S m) .number ≡ 0 → Goes S m
 unfolding refresh
 goes S none e = absurd (omega arith)
@@ -70,6 +71,7 @@ module _ (S : State) (bs before : List ℕ) (bytes : Bytes bs) (g : Goes S (pars
   long : 9 ≤ length bs
   long = omega (arith, valid-size (g .r) (bytesOf-parse bs (g .r) bytes (g .is) .0) .least, ap length lent)
 
+  -- less room than the record needs
   too-short : length before < length bs → outcome outputShort before ≡ refreshedOf S (parse bs) before
   unfolding leftBy
   too-short h = rw (g .does, lt-ltb (length before) (length (bytesOf (at (S .p) (g .r)))) (rw size h))
@@ -80,6 +82,7 @@ module _ (S : State) (bs before : List ℕ) (bytes : Bytes bs) (g : Goes S (pars
       ap (λ (l : List ℕ). putWord 4 (l ++ drop (length bs) before) 3 (S .p)) lent ∙ snapshot-stored (S .p) (g .r) (drop (length bs) before)
       ∙ ap (λ (n : ℕ). bytesOf (at (S .p) (g .r)) ++ drop n before) (sym size)
 
+  -- room enough
   long-enough : length bs ≤ length before → outcome committed (putWord 4 (front bs before) 3 (S .p)) ≡ refreshedOf S (parse bs) before
   unfolding leftBy
   long-enough h = rw (g .does, le-ltb (length before) (length (bytesOf (at (S .p) (g .r)))) (rw size h)) (ap (outcome committed) put-over)
@@ -87,13 +90,16 @@ module _ (S : State) (bs before : List ℕ) (bytes : Bytes bs) (g : Goes S (pars
 -- THE RETURNS
 
 module _ (m bs before : List ℕ) (bytes : Bytes bs) (a : Answer) (asked : (A : Arrangement) → Image m A → a ≡ answerTo (refresh (stateOf A) (parse bs))) where
+  -- 4, 5, 2 or 1
   pub returns-refused : (a .number ≡ 0 → ⊥) → (A : Arrangement) → Image m A → outcome a before ≡ refreshedOf (stateOf A) (parse bs) before
   returns-refused n A i = refused-is before a (refresh (stateOf A) (parse bs)) (asked A i) n
 
   module _ (zero : a .number ≡ 0) where
+    -- 0 was the answer at every arrangement
     gone : (A : Arrangement) → Image m A → Goes (stateOf A) (parse bs)
     gone A i = goes (stateOf A) (parse bs) (ap (λ (b : Answer). b .number) (sym (asked A i)) ∙ zero)
 
+    -- 8
     pub returns-short : length before < length bs → (A : Arrangement) → Image m A → outcome outputShort before ≡ refreshedOf (stateOf A) (parse bs) before
     returns-short h A i = too-short (stateOf A) bs before bytes (gone A i) h
 
@@ -106,6 +112,7 @@ module _ (m bs before : List ℕ) (bytes : Bytes bs) (a : Answer) (asked : (A : 
       pub snapshot-inside : Fit m → 3 + 4 ≤ length copied
       snapshot-inside f = omega (arith, ap length copy, length-append bs (drop (length bs) before), original-long f)
 
+      -- 0
       pub returns-done : (h : Header) → h ≡ headerAt m → (after : List ℕ) → after ≡ putWord 4 copied 3 (h .position)
           → (A : Arrangement) → Image m A → outcome committed after ≡ refreshedOf (stateOf A) (parse bs) before
       returns-done h eh after put A i =

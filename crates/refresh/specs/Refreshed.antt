@@ -22,6 +22,7 @@ pub record Outcome : Type 0 where
   pub answer : Answer
   pub output : List ℕ
 
+-- the two together
 abbrev pub outcome : Answer → List ℕ → Outcome
 outcome a output = record { answer = a; output = output }
 

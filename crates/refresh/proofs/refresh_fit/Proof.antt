@@ -13,7 +13,7 @@ returns : tie.Need-returns
 returns c = returns-refused _ _ _ (record { byte = λ i. omega (arith, c .before .before .before .before .before .shared-slice-known2 .given i) }) _ (c .before .before .before .asked .ensures) (c .if1 .taken)
 
 returns-2 : tie.Need-returns-2
-returns-2 c = returns-short _ _ _ (record { byte = λ i. omega (arith, c .before .before .before .before .before .before .shared-slice-known2 .given i) }) _ (c .before .before .before .before .asked .ensures) (c .before .if1 .left) (c .if2 .taken)
+returns-2 c = returns-short _ _ (c .before .before .before .before .before .before .before .before .args .output .now) (record { byte = λ i. omega (arith, c .before .before .before .before .before .before .shared-slice-known2 .given i) }) _ (c .before .before .before .before .asked .ensures) (c .before .if1 .left) (omega arith)
 
 copy-front-requires : tie.Need-copy-front-requires
 copy-front-requires c κs = search needs
@@ -22,7 +22,7 @@ read-header-requires : tie.Need-read-header-requires
 read-header-requires c κs = search needs
 
 put4-requires : tie.Need-put4-requires
-put4-requires c κs = snapshot-inside _ _ _ (record { byte = λ i. omega (arith, c .before .before .before .before .before .before .before .before .before .before .before .before .shared-slice-known2 .given i) }) _ (c .before .before .before .before .before .before .before .before .before .before .asked .ensures) (c .before .before .before .before .before .before .before .if1 .left) (c .before .before .before .before .before .before .if2 .left) _ (c .before .before .before .before .copy-front .ensures) (c .before .before .before .before .before .before .before .before .before .before .before .before .before .before .pre)
+put4-requires c κs = omega (arith, snapshot-inside _ _ _ (record { byte = λ i. omega (arith, c .before .before .before .before .before .before .before .before .before .before .before .before .shared-slice-known2 .given i) }) _ (c .before .before .before .before .before .before .before .before .before .before .asked .ensures) (c .before .before .before .before .before .before .before .if1 .left) (c .before .before .before .before .before .before .if2 .left) _ (c .before .before .before .before .copy-front .ensures) (c .before .before .before .before .before .before .before .before .before .before .before .before .before .before .pre))
 
 same-length : tie.Need-same-length
 same-length c = search needs

@@ -33,13 +33,13 @@ loop-less : tie.Need-loop-less Inv-loop μ-loop
 loop-less c = omega arith
 
 loop-again : tie.Need-loop-again Inv-loop μ-loop
-loop-again c = let l = c .before .before .loop in (copy-more _ _ _ _ (l .inv .0) (c .before .loop-test .taken) (c .before .before .before .pre), omega arith, length-set (l .output) (l .i) _ ∙ l .inv .2)
+loop-again c = let l = c .before .before .loop in (copy-more _ _ _ _ (l .inv .0) (omega arith) (c .before .before .before .pre), omega arith, length-set (l .output) (l .i) _ ∙ l .inv .2)
 
 same-length : tie.Need-same-length Inv-loop μ-loop
 same-length c = c .before .loop .inv .2
 
 returns : tie.Need-returns Inv-loop μ-loop
-returns c = let l = c .before .loop in copy-all _ _ _ _ (l .inv .0) (l .inv .1) (c .loop-test .left)
+returns c = let l = c .before .loop in copy-all _ _ _ _ (l .inv .0) (l .inv .1) (omega arith)
 
 pub copy-front-spec : {M : Type 1} → statement M
 copy-front-spec =
