@@ -1,2 +1,3 @@
+mod Held
 mod Lent
 pub mod Only

@@ -10,11 +10,19 @@ use Rattle.log.proofs.Only.{SameSlice, only-cut, only-part}
 use Rattle.walker.specs.declared.LogReader.{LogReader}
 use Rattle.walker.specs.declared.Step.{Step}
 use Rattle.walker.specs.declared.Move.{Move}
-use Rattle.walker.specs.Walker.{Stepped, Moved}
+use Rattle.walker.specs.Walker.{Opened, Stands, Stepped, Moved}
 
 -- two readers with the same log and the same place are one
 reader-same : (r q : LogReader) → r .log ≡ q .log → r .place ≡ q .place → r ≡ q
 reader-same r q e f = λ i. record { log = e i; place = f i }
+
+-- `new`: one reader for each lent log
+pub only-new : (lent : RefT (List ℕ)) (r q : LogReader) → Opened lent r → Opened lent q → r ≡ q
+only-new lent r q a b = reader-same r q (a .log ∙ sym (b .log)) (a .place ∙ sym (b .place))
+
+-- `place`: one number for each reader
+pub only-place : (reader : LogReader) (n m : ℕ) → Stands reader n → Stands reader m → n ≡ m
+only-place reader n m a b = a ∙ sym b
 
 -- two steps are one: the same case, and one slice of the log as the part
 pub record SameStep (r q : Step) : Type 0 where

@@ -10,6 +10,15 @@ use Rattle.walker.specs.declared.LogReader.{LogReader}
 use Rattle.walker.specs.declared.Step.{Step}
 use Rattle.walker.specs.declared.Move.{Move}
 
+-- a new reader holds the lent log, and its own place is the log's first byte
+pub record Opened (lent : RefT (List ℕ)) (r : LogReader) : Type 0 where
+  pub log : r .log ≡ lent
+  pub place : r .place ≡ 0
+
+-- a number is the reader's own place
+abbrev pub Stands : LogReader → ℕ → Type 0
+Stands reader n = n ≡ reader .place
+
 -- one step: what stands at the reader's place, the part handed out there, the same lent log afterwards, and the place afterwards,
 -- past a record and "with "end" or 10 .. unchanged"
 pub record Stepped (before after : LogReader) (r : Step) : Type 0 where

@@ -2,7 +2,7 @@
 // it takes the reader apart and leaves the work to `log::cut` and `log::part`, on a slice and a number.
 ghost use mathlib.Core.Path.{_≡_};
 ghost use Rattle.log.specs.Log.{placeAfter, HandedOut};
-ghost use Rattle.walker.specs.Walker.{Stepped, Moved};
+ghost use Rattle.walker.specs.Walker.{Opened, Stands, Stepped, Moved};
 use log::Cut;
 use log::cut;
 use log::part;
@@ -36,6 +36,20 @@ fn place_after(found: Cut, place: usize) -> usize
 }
 
 impl<'a> LogReader<'a> {
+    // A reader of the lent log that stands at its first byte.
+    pub fn new(log: &'a [u8]) -> LogReader<'a>
+        ensures { λ r. ⌜ Opened (log .entry) r ⌝ }
+    {
+        LogReader { log, place: 0 }
+    }
+
+    // The reader's place in the log. The reader stays there.
+    pub fn place<'s>(&'s self) -> usize
+        ensures { λ r. ⌜ Stands (now (self .entry)) r ⌝ }
+    {
+        self.place
+    }
+
     // One step: at a record the part handed out is that record and the reader moves past it; at the end and in a broken log
     // the part is empty and the reader stays.
     pub fn step<'s>(&'s mut self) -> Step<'a>
