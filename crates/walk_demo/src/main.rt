@@ -1,9 +1,13 @@
 // The two forms over structs, run: the log reader over a small log, and the writer's entry for pairs.
-// The log is document 01's two whole records back to back, and one byte that is no record. For each step a line: what was found (1 a
-// record, 0 the end, 10 a broken log), the place afterwards, and how many bytes were handed out. Then the second of the two records
-// is written, with its scan as a pair, and printed: answer, size, and the bytes.
+// The log is document 01's two whole records back to back, and one byte that is no record. First a line with the place of a new reader
+// after one step. Then for each step from a place a line: what was found (1 a record, 0 the end, 10 a broken log), the place afterwards,
+// and how many bytes were handed out. Then the second of the two records is written, with its scan as a pair, and printed: answer, size,
+// and the bytes.
+ghost use mathlib.Core.Path.{_≡_};
+ghost use Rattle.log.specs.Log.{cutAt, placeAfter};
 use log::Cut;
 use record::Scan;
+use walker::LogReader;
 
 // The number that a line starts with.
 fn number(found: Cut) -> u64 {
@@ -12,6 +16,15 @@ fn number(found: Cut) -> u64 {
         Cut::Broken => 10,
         Cut::Record(_) => 1,
     }
+}
+
+// Where a new reader of the log stands after one step.
+fn second_place(log: &[u8]) -> usize
+    ensures { λ r. ⌜ r ≡ placeAfter (cutAt (now (log .entry)) 0) 0 ⌝ }
+{
+    let mut reader = LogReader::new(log);
+    reader.step();
+    reader.place()
 }
 
 // One step from a place, and its line; gives the place afterwards.
@@ -61,6 +74,8 @@ fn written(low: u32, high: u32) {
 fn main() {
     let log =
         b"\x00\x0C\x01\x00\x00\x00\x01\x01\x00\x01\x00\x00\x00\x1E\x00\x1C\x01\x00\x00\x00\x01\x01\x01\x02\x00\x00\x00\x1E\x00\x00\x00\x00\x00\x00\x01\x2C\x00\x00\x00\x0B\x00\x00\x00\x13\x00";
+    io::print_decimal(1, second_place(log) as u64);
+    io::write_all(1, b"\n");
     let second = line(log, 0);
     let third = line(log, second);
     let stays = line(log, third);

@@ -1,3 +1,3 @@
 mod Held
-mod Lent
+pub mod Lent
 pub mod Only
