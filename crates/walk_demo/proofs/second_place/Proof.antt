@@ -67,11 +67,11 @@ use Rattle.walk_demo.proofs.second_place as second
 use Rattle.walk_demo.proofs.second_place.Statement as stated
 use Rattle.walk_demo.proofs.second_place.Code as code
 
-abbrev LogT : Lft → RattleType
-LogT κ = ShrSlice (named 0) κ u8
+abbrev LentLog : Lft → RattleType
+LentLog κ = ShrSlice (named 0) κ u8
 
-abbrev stayed : Stays (second.ended .signature .params) (second.ended .kept)
-stayed = (stay-none-slice (0 ∷ []) tt (plain (λ _. u8)) yes, tt)
+abbrev kept-whole : Stays (second.ended .signature .params) (second.ended .kept)
+kept-whole = (stay-none-slice (0 ∷ []) tt (plain (λ _. u8)) yes, tt)
 
 -- the promise of `new`
 abbrev NewC : {M : Type 1} (𝓤 : URA M) (H : Heap 𝓤) (A : Atoms 𝓤) (at-mem : Memory → SProp 𝓤) (run : Routine → Fun 𝓤) → Contract 𝓤
@@ -82,11 +82,11 @@ after-one : (s : RefT (List ℕ)) (r h : LogReader) (t : Step) (n : ℕ) → Ope
 after-one s r h t n a b c = c ∙ b .place ∙ λ i. placeAfter (cutAt (now (a .log i)) (a .place i)) (a .place i)
 
 module _ {M : Type 1} (𝓤 : URA M) (H : Heap 𝓤) (A : Atoms 𝓤) (W : Given 𝓤 H A) (at-mem : Memory → SProp 𝓤) (run : Routine → Fun 𝓤) (κ : Lft) (q : Share) (s : RefT (List ℕ)) where
-  abbrev Entry : SProp 𝓤
-  Entry = onEntry 𝓤 H A second.signature (κ, tt) (q, tt) (s, tt) (slice-vals s, tt)
+  abbrev Start : SProp 𝓤
+  Start = onEntry 𝓤 H A second.signature (κ, tt) (q, tt) (s, tt) (slice-vals s, tt)
 
-  abbrev Post : Val → SProp 𝓤
-  Post = walkOf 𝓤 H A second.ended stayed (second.clauses 𝓤 H A at-mem run) .post (((κ, tt), (q, tt), tt, (s, tt), (slice-vals s, tt)), tt)
+  abbrev Left : Val → SProp 𝓤
+  Left = walkOf 𝓤 H A second.ended kept-whole (second.clauses 𝓤 H A at-mem run) .post (((κ, tt), (q, tt), tt, (s, tt), (slice-vals s, tt)), tt)
 
   -- a reader in a local, where its type names no lifetime
   abbrev ε : NamedLft
@@ -96,8 +96,8 @@ module _ {M : Type 1} (𝓤 : URA M) (H : Heap 𝓤) (A : Atoms 𝓤) (W : Given
   abbrev to-new : NewC 𝓤 H A at-mem run .Ghost
   to-new = (((κ, tt), (q, tt), tt, (s, tt), (slice-vals s, tt)), tt)
 
-  goes-new : ent 𝓤 (⋆ 𝓤 H A (‵ (LogT κ .own s (slice-vals s)) ∷ (‵ (flft κ q) ⊛ ‵ ftrue) ∷ [])) (NewC 𝓤 H A at-mem run .pre to-new)
-  goes-new = qed W (‵ (LogT κ .own s (slice-vals s)) ∷ (‵ (flft κ q) ⊛ ‵ ftrue) ∷ []) ∵ nothing ! $ move ! (1 ∷ 0 ∷ []) $ fjoin ! $ move ! (1 ∷ 0 ∷ []) $ join ! $ frame ! $ done !
+  goes-new : ent 𝓤 (⋆ 𝓤 H A (‵ (LentLog κ .own s (slice-vals s)) ∷ (‵ (flft κ q) ⊛ ‵ ftrue) ∷ [])) (NewC 𝓤 H A at-mem run .pre to-new)
+  goes-new = qed W (‵ (LentLog κ .own s (slice-vals s)) ∷ (‵ (flft κ q) ⊛ ‵ ftrue) ∷ []) ∵ nothing ! $ move ! (1 ∷ 0 ∷ []) $ fjoin ! $ move ! (1 ∷ 0 ∷ []) $ join ! $ frame ! $ done !
 
   new-said : (r : LogReader) → ent 𝓤 (ensured 𝓤 H A new.ended (new.clauses 𝓤 H A at-mem run) (κ, tt) (s, tt) tt r) (fact 𝓤 (Opened s r))
   new-said r = exE 𝓤 _ (λ ws. snd∗ 𝓤 (sem 𝓤 H A (lasts new.ended (κ, tt) (s, tt) ws)) (fact 𝓤 (Opened s r)))
@@ -105,20 +105,20 @@ module _ {M : Type 1} (𝓤 : URA M) (H : Heap 𝓤) (A : Atoms 𝓤) (W : Given
   place-said : (ν : ℕ) (x : RefT LogReader) (n : ℕ) → ent 𝓤 (ensured 𝓤 H A place.ended (place.clauses 𝓤 H A at-mem run) (ν ∷ κ, (κ, tt)) (x, tt) tt n) (fact 𝓤 (Stands (now x) n))
   place-said ν x n = exE 𝓤 _ (λ ws. snd∗ 𝓤 (sem 𝓤 H A (lasts place.ended (ν ∷ κ, (κ, tt)) (x, tt) ws)) (fact 𝓤 (Stands (now x) n)))
 
-  exits : (n : ℕ) → n < 2 ^ 64 → n ≡ placeAfter (cutAt (now s) 0) 0 → ent 𝓤 (⋆ 𝓤 H A ((‵ (flft κ q) ⊛ ‵ ftrue) ∷ ‵ (LogT κ .own s (slice-vals s)) ∷ [])) (Post (vint w64 n))
-  exits n fits is =
-      qed W ((‵ (flft κ q) ⊛ ‵ ftrue) ∷ ‵ (LogT κ .own s (slice-vals s)) ∷ []) ∵
-      suffices ! _ (ends-at 𝓤 H A second.ended stayed (second.clauses 𝓤 H A at-mem run) W (((κ, tt), (q, tt), tt, (s, tt), (slice-vals s, tt)), tt) (vint w64 n) n (tt, tt) (tt, tt)) $ says ! is $ frame ! $
+  ends : (n : ℕ) → n < 2 ^ 64 → n ≡ placeAfter (cutAt (now s) 0) 0 → ent 𝓤 (⋆ 𝓤 H A ((‵ (flft κ q) ⊛ ‵ ftrue) ∷ ‵ (LentLog κ .own s (slice-vals s)) ∷ [])) (Left (vint w64 n))
+  ends n fits is =
+      qed W ((‵ (flft κ q) ⊛ ‵ ftrue) ∷ ‵ (LentLog κ .own s (slice-vals s)) ∷ []) ∵
+      suffices ! _ (ends-at 𝓤 H A second.ended kept-whole (second.clauses 𝓤 H A at-mem run) W (((κ, tt), (q, tt), tt, (s, tt), (slice-vals s, tt)), tt) (vint w64 n) n (tt, tt) (tt, tt)) $ says ! is $ frame ! $
       nothing ! $ move ! (1 ∷ 0 ∷ []) $ fjoin ! $ frame ! $ owned ! usize (Is usize) (uint-makes 𝓤 H A W w64) n _ (refl, fits) $ done !
 
   module _ (C : Calls 𝓤 H) (Λ : Loops 𝓤 H) (fm : FmC 𝓤 H (W .laws) C) (known-new : Triple 𝓤 (C #walker·new) (NewC 𝓤 H A at-mem run)) (known-step : Triple 𝓤 (C #walker·step) (StepC 𝓤 H A at-mem run)) (known-place : Triple 𝓤 (C #walker·place) (PlaceC 𝓤 H A at-mem run)) where
-    walk : Is (LogT κ) s (slice-vals s) → ent 𝓤 Entry (WpFn 𝓤 H C Λ code.function (slice-vals s) Post)
-    walk p =
-        qed W ((‵ (flft κ q) ⊛ ‵ ftrue) ∷ ‵ (owns (LogT κ ∷ []) (s, tt) (slice-vals s, tt)) ∷ []) ∵ enter ! C Λ code.function (slice-vals s) _ $
+    runs-through : Is (LentLog κ) s (slice-vals s) → ent 𝓤 Start (WpFn 𝓤 H C Λ code.function (slice-vals s) Left)
+    runs-through p =
+        qed W ((‵ (flft κ q) ⊛ ‵ ftrue) ∷ ‵ (owns (LentLog κ ∷ []) (s, tt) (slice-vals s, tt)) ∷ []) ∵ enter ! C Λ code.function (slice-vals s) _ $
         alloc1 ! (λ l₀. alloc1 ! (λ l₁. alloc1 ! (λ l₂. alloc1 ! (λ l₃. alloc1 ! (λ l₄. alloc1 ! (λ l₅. alloc1 ! (λ l₆. alloc0 ! $ params1 ! $
         pass1 ! (init ! 10 refl (shr-slice-lawful 𝓤 H A W (named 0) κ u8 .typed s (slice-vals s) p .0)) $ pass0 ! $
         -- `new`, with a copy of the log
-        move ! (15 ∷ []) $ fsplit ! $ move ! (1 ∷ []) $ drop ! $ use1 W (‵ (LogT κ .own s (slice-vals s)) ⊛ ‵ (LogT κ .own s (slice-vals s))) (shr-slice-copy 𝓤 H A W (named 0) κ u8 .twice s (slice-vals s)) $ split ! $
+        move ! (15 ∷ []) $ fsplit ! $ move ! (1 ∷ []) $ drop ! $ use1 W (‵ (LentLog κ .own s (slice-vals s)) ⊛ ‵ (LentLog κ .own s (slice-vals s))) (shr-slice-copy 𝓤 H A W (named 0) κ u8 .twice s (slice-vals s)) $ split ! $
         move ! (0 ∷ 16 ∷ []) $ use2 W (raw (NewC 𝓤 H A at-mem run .pre to-new)) goes-new $
         calls-at ! fm (NewC 𝓤 H A at-mem run) known-new to-new (and-then ! (load ! (from ! (stop !)) (look ! 12 refl)) (no-more !)) (λ u.
         use1 W (later (some (λ (r : LogReader). ((‵ (flft κ q) ⊛ ‵ ftrue) ⊛ ‵ (B κ .own r (u ∷ []))) ⊛ raw (ensured 𝓤 H A new.ended (new.clauses 𝓤 H A at-mem run) (κ, tt) (s, tt) tt r)))) (id⊢ 𝓤 _) $ await ! tt $ pick ! (λ r.
@@ -159,7 +159,7 @@ module _ {M : Type 1} (𝓤 : URA M) (H : Heap 𝓤) (A : Atoms 𝓤) (W : Given
         -- [_2; the token; true; the log; _6; …; _5; …; _4; …; _3; …; _2's end; _1; …; _0; …]
         returns ! (look ! 15 refl) $ forget ! 0 refl $ forget ! 4 refl $ forget ! 6 refl $ forget ! 8 refl $ forget ! 10 refl $ forget ! 13 refl $ forget ! 15 refl $
         move ! (15 ∷ 16 ∷ []) $ free1 ! $ move ! (13 ∷ 14 ∷ []) $ free1 ! $ move ! (0 ∷ 12 ∷ []) $ free1 ! $ move ! (9 ∷ 10 ∷ []) $ free1 ! $ move ! (7 ∷ 8 ∷ []) $ free1 ! $ move ! (5 ∷ 6 ∷ []) $ free1 ! $ move ! (3 ∷ 4 ∷ []) $ free1 ! $ free0 ! $
-        keep ! (0 ∷ 2 ∷ []) $ by ! (exits n (is-n .1) (after-one s r (ws .0) t n is-new is-step is-place))))))))))))))))))))))))))
+        keep ! (0 ∷ 2 ∷ []) $ by ! (ends n (is-n .1) (after-one s r (ws .0) t n is-new is-step is-place))))))))))))))))))))))))))
 
 pub second-place-spec : {M : Type 1} → stated.statement M
 unfolding code.routine tablesOf
@@ -168,10 +168,10 @@ second-place-spec 𝓤 H 𝓜 𝓖 𝓡 =
     let 𝓣 = tablesOf 𝓤 H 𝓜 (tables 𝓤 H 𝓜 𝓡 code.env) in
     entered 𝓤 H (tripleOf 𝓤 H (𝓖 .A) second.signature (second.spec 𝓤 H (𝓖 .A) (𝓜 .mem) (𝓡 .run)))
     (tables 𝓤 H 𝓜 𝓡 code.env .C) (tables 𝓤 H 𝓜 𝓡 code.env .Λ) #walk-demo·second-place code.function (code.unfolded 𝓤 H 𝓜 𝓡)
-    (walk-meets 𝓤 H (𝓖 .A) second.ended stayed W (goes-none-slice 𝓤 H (𝓖 .A) W 1 (0 ∷ []) tt (plain (λ _. u8)) yes, tt) (second.clauses 𝓤 H (𝓖 .A) (𝓜 .mem) (𝓡 .run))
+    (walk-meets 𝓤 H (𝓖 .A) second.ended kept-whole W (goes-none-slice 𝓤 H (𝓖 .A) W 1 (0 ∷ []) tt (plain (λ _. u8)) yes, tt) (second.clauses 𝓤 H (𝓖 .A) (𝓜 .mem) (𝓡 .run))
     (WpFn 𝓤 H (𝓣 .C) (𝓣 .Λ) code.function) (WpFn-mono 𝓤 H (W .laws) 𝓣 code.function)
-    (walked 𝓤 H (𝓖 .A) second.ended stayed (second.clauses 𝓤 H (𝓖 .A) (𝓜 .mem) (𝓡 .run)) (WpFn 𝓤 H (𝓣 .C) (𝓣 .Λ) code.function) (λ κs. (slice-vals, tt)) (λ κs. (shr-slice-tells (named 0) (κs .0) u8, tt))
-    (λ κs qs bounds a g are. via 𝓤 _ (fst∗ 𝓤 _ (emp 𝓤)) (walk 𝓤 H (𝓖 .A) W (𝓜 .mem) (𝓡 .run) (κs .0) (qs .0) (a .0) (𝓣 .C) (𝓣 .Λ) (fmOf 𝓤 H (W .laws) 𝓣)
+    (walked 𝓤 H (𝓖 .A) second.ended kept-whole (second.clauses 𝓤 H (𝓖 .A) (𝓜 .mem) (𝓡 .run)) (WpFn 𝓤 H (𝓣 .C) (𝓣 .Λ) code.function) (λ κs. (slice-vals, tt)) (λ κs. (shr-slice-tells (named 0) (κs .0) u8, tt))
+    (λ κs qs bounds a g are. via 𝓤 _ (fst∗ 𝓤 _ (emp 𝓤)) (runs-through 𝓤 H (𝓖 .A) W (𝓜 .mem) (𝓡 .run) (κs .0) (qs .0) (a .0) (𝓣 .C) (𝓣 .Λ) (fmOf 𝓤 H (W .laws) 𝓣)
     (cited 𝓤 H (NewC 𝓤 H (𝓖 .A) (𝓜 .mem) (𝓡 .run)) 𝓜 𝓡 code.env #walker·new new-def.routine code.calls-walker·LogReader·new (new-thm.met 𝓤 H 𝓜 𝓖 𝓡))
     (cited 𝓤 H (StepC 𝓤 H (𝓖 .A) (𝓜 .mem) (𝓡 .run)) 𝓜 𝓡 code.env #walker·step step-def.routine code.calls-walker·LogReader·step (step-thm.met 𝓤 H 𝓜 𝓖 𝓡))
     (cited 𝓤 H (PlaceC 𝓤 H (𝓖 .A) (𝓜 .mem) (𝓡 .run)) 𝓜 𝓡 code.env #walker·place place-def.routine code.calls-walker·LogReader·place (place-thm.met 𝓤 H 𝓜 𝓖 𝓡)) (are .0)))))

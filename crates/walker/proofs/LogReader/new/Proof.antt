@@ -42,40 +42,40 @@ use Rattle.walker.proofs.LogReader.new.Statement as stated
 use Rattle.walker.proofs.LogReader.new.Code as code
 
 -- the lent log's type, and what is left of it at exit: all of it
-abbrev LogT : Lft → RattleType
-LogT κ = ShrSlice (named 0) κ u8
+abbrev LentLog : Lft → RattleType
+LentLog κ = ShrSlice (named 0) κ u8
 
-abbrev stayed : Stays (new.ended .signature .params) (new.ended .kept)
-stayed = (stay-none-slice (0 ∷ []) tt (plain (λ _. u8)) yes, tt)
+abbrev kept-whole : Stays (new.ended .signature .params) (new.ended .kept)
+kept-whole = (stay-none-slice (0 ∷ []) tt (plain (λ _. u8)) yes, tt)
 
 module _ {M : Type 1} (𝓤 : URA M) (H : Heap 𝓤) (A : Atoms 𝓤) (W : Given 𝓤 H A) (at-mem : Memory → SProp 𝓤) (run : Routine → Fun 𝓤) (κ : Lft) (q : Share) (s : RefT (List ℕ)) where
-  abbrev α : NamedLft
-  α = record { mir = named 0; lft = κ }
+  abbrev own-lifetime : NamedLft
+  own-lifetime = record { mir = named 0; lft = κ }
 
-  abbrev Entry : SProp 𝓤
-  Entry = onEntry 𝓤 H A new.signature (κ, tt) (q, tt) (s, tt) (slice-vals s, tt)
+  abbrev Start : SProp 𝓤
+  Start = onEntry 𝓤 H A new.signature (κ, tt) (q, tt) (s, tt) (slice-vals s, tt)
 
-  abbrev Post : Val → SProp 𝓤
-  Post = walkOf 𝓤 H A new.ended stayed (new.clauses 𝓤 H A at-mem run) .post (((κ, tt), (q, tt), tt, (s, tt), (slice-vals s, tt)), tt)
+  abbrev Left : Val → SProp 𝓤
+  Left = walkOf 𝓤 H A new.ended kept-whole (new.clauses 𝓤 H A at-mem run) .post (((κ, tt), (q, tt), tt, (s, tt), (slice-vals s, tt)), tt)
 
-  exits : (n : ℕ) → n < 2 ^ 64 → Opened s (reader s n) → ent 𝓤 Entry (Post (T′.lowered (reader s n)))
-  exits n fits is =
-      qed W ((‵ (flft κ q) ⊛ ‵ ftrue) ∷ ‵ (owns (LogT κ ∷ []) (s, tt) (slice-vals s, tt)) ∷ []) ∵
-      suffices ! _ (ends-at 𝓤 H A new.ended stayed (new.clauses 𝓤 H A at-mem run) W (((κ, tt), (q, tt), tt, (s, tt), (slice-vals s, tt)), tt) (T′.lowered (reader s n)) (reader s n) (tt, tt) (tt, tt)) $ says ! is $ frame ! $
-      fsplit ! $ use1 W (‵ (LogT κ .own s (slice-vals s)) ⊛ ‵ (LogT κ .own s (slice-vals s))) (shr-slice-copy 𝓤 H A W (named 0) κ u8 .twice s (slice-vals s)) $ split ! $
-      use1 W (‵ (T.the-row α .own (reader s n) (T′.lowered (reader s n) ∷ []))) (makes-reader 𝓤 H A W (named 0) α s n fits) $
+  ends : (n : ℕ) → n < 2 ^ 64 → Opened s (reader s n) → ent 𝓤 Start (Left (T′.lowered (reader s n)))
+  ends n fits is =
+      qed W ((‵ (flft κ q) ⊛ ‵ ftrue) ∷ ‵ (owns (LentLog κ ∷ []) (s, tt) (slice-vals s, tt)) ∷ []) ∵
+      suffices ! _ (ends-at 𝓤 H A new.ended kept-whole (new.clauses 𝓤 H A at-mem run) W (((κ, tt), (q, tt), tt, (s, tt), (slice-vals s, tt)), tt) (T′.lowered (reader s n)) (reader s n) (tt, tt) (tt, tt)) $ says ! is $ frame ! $
+      fsplit ! $ use1 W (‵ (LentLog κ .own s (slice-vals s)) ⊛ ‵ (LentLog κ .own s (slice-vals s))) (shr-slice-copy 𝓤 H A W (named 0) κ u8 .twice s (slice-vals s)) $ split ! $
+      use1 W (‵ (T.the-row own-lifetime .own (reader s n) (T′.lowered (reader s n) ∷ []))) (makes-reader 𝓤 H A W (named 0) own-lifetime s n fits) $
       -- [the reader; the log; true]
       move ! (1 ∷ 2 ∷ []) $ fjoin ! $ frame ! $ done !
 
   module _ (C : Calls 𝓤 H) (Λ : Loops 𝓤 H) where
-    walk : Is (LogT κ) s (slice-vals s) → ent 𝓤 Entry (WpFn 𝓤 H C Λ code.function (slice-vals s) Post)
-    walk p =
+    runs-through : Is (LentLog κ) s (slice-vals s) → ent 𝓤 Start (WpFn 𝓤 H C Λ code.function (slice-vals s) Left)
+    runs-through p =
         let typed = shr-slice-lawful 𝓤 H A W (named 0) κ u8 .typed s (slice-vals s) p .0 in
-        qed W ((‵ (flft κ q) ⊛ ‵ ftrue) ∷ ‵ (owns (LogT κ ∷ []) (s, tt) (slice-vals s, tt)) ∷ []) ∵ enter ! C Λ code.function (slice-vals s) _ $
+        qed W ((‵ (flft κ q) ⊛ ‵ ftrue) ∷ ‵ (owns (LentLog κ ∷ []) (s, tt) (slice-vals s, tt)) ∷ []) ∵ enter ! C Λ code.function (slice-vals s) _ $
         alloc1 ! (λ l₀. alloc1 ! (λ l₁. alloc0 ! $ params1 ! $ pass1 ! (init ! 0 refl typed) $ pass0 ! $
         -- [_1; …; room for _0; …; the token; the log]
         assigns ! (agg ! (and-then ! (load ! (from ! (stop !)) (look ! 0 refl)) (and-then ! (lit ! tt) (no-more !)))) (from ! (stop !)) (init ! 2 refl (tt, (typed .1, (record { fits = omega arith }, tt)))) $
-        returns ! (look ! 2 refl) $ forget ! 0 refl $ forget ! 2 refl $ move ! (2 ∷ 3 ∷ []) $ free1 ! $ free1 ! $ free0 ! $ by ! (exits _ (omega arith) (record { log = refl; place = refl }))))
+        returns ! (look ! 2 refl) $ forget ! 0 refl $ forget ! 2 refl $ move ! (2 ∷ 3 ∷ []) $ free1 ! $ free1 ! $ free0 ! $ by ! (ends _ (omega arith) (record { log = refl; place = refl }))))
 
 pub new-spec : {M : Type 1} → stated.statement M
 unfolding code.routine tablesOf
@@ -84,7 +84,7 @@ new-spec 𝓤 H 𝓜 𝓖 𝓡 =
     let 𝓣 = tablesOf 𝓤 H 𝓜 (tables 𝓤 H 𝓜 𝓡 code.env) in
     entered 𝓤 H (tripleOf 𝓤 H (𝓖 .A) new.signature (new.spec 𝓤 H (𝓖 .A) (𝓜 .mem) (𝓡 .run)))
     (tables 𝓤 H 𝓜 𝓡 code.env .C) (tables 𝓤 H 𝓜 𝓡 code.env .Λ) #walker·new code.function (code.unfolded 𝓤 H 𝓜 𝓡)
-    (walk-meets 𝓤 H (𝓖 .A) new.ended stayed W (goes-none-slice 𝓤 H (𝓖 .A) W 1 (0 ∷ []) tt (plain (λ _. u8)) yes, tt) (new.clauses 𝓤 H (𝓖 .A) (𝓜 .mem) (𝓡 .run))
+    (walk-meets 𝓤 H (𝓖 .A) new.ended kept-whole W (goes-none-slice 𝓤 H (𝓖 .A) W 1 (0 ∷ []) tt (plain (λ _. u8)) yes, tt) (new.clauses 𝓤 H (𝓖 .A) (𝓜 .mem) (𝓡 .run))
     (WpFn 𝓤 H (𝓣 .C) (𝓣 .Λ) code.function) (WpFn-mono 𝓤 H (W .laws) 𝓣 code.function)
-    (walked 𝓤 H (𝓖 .A) new.ended stayed (new.clauses 𝓤 H (𝓖 .A) (𝓜 .mem) (𝓡 .run)) (WpFn 𝓤 H (𝓣 .C) (𝓣 .Λ) code.function) (λ κs. (slice-vals, tt)) (λ κs. (shr-slice-tells (named 0) (κs .0) u8, tt))
-    (λ κs qs bounds a g are. via 𝓤 _ (fst∗ 𝓤 _ (emp 𝓤)) (walk 𝓤 H (𝓖 .A) W (𝓜 .mem) (𝓡 .run) (κs .0) (qs .0) (a .0) (𝓣 .C) (𝓣 .Λ) (are .0)))))
+    (walked 𝓤 H (𝓖 .A) new.ended kept-whole (new.clauses 𝓤 H (𝓖 .A) (𝓜 .mem) (𝓡 .run)) (WpFn 𝓤 H (𝓣 .C) (𝓣 .Λ) code.function) (λ κs. (slice-vals, tt)) (λ κs. (shr-slice-tells (named 0) (κs .0) u8, tt))
+    (λ κs qs bounds a g are. via 𝓤 _ (fst∗ 𝓤 _ (emp 𝓤)) (runs-through 𝓤 H (𝓖 .A) W (𝓜 .mem) (𝓡 .run) (κs .0) (qs .0) (a .0) (𝓣 .C) (𝓣 .Λ) (are .0)))))
