@@ -22,7 +22,9 @@ abbrev pub lookupOf : Seen → Lookup
 lookupOf absent = Absent
 lookupOf (found x w) = Found x w
 
--- for the state that the pool means, what the rules' lookup sees; 7 where it means none
+-- for the state that the pool means, what the rules' lookup sees, which has no number; 7 where it means none
 pub record LooksUp (m : List ℕ) (k : ℕ) (r : Lookup) : Type 0 where
   pub fit : (A : Arrangement) → Image m A → r ≡ lookupOf (lookup k (stateOf A))
   pub unfit : (Fit m → ⊥) → r ≡ Unfit
+  pub no-number : Fit m → numberOf r ≡ none
+  pub number : (Fit m → ⊥) → numberOf r ≡ some unfitPool
