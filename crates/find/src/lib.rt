@@ -1,4 +1,5 @@
 // One descent: what a fit pool keeps under a key.
+use nodes::NO_NODE;
 use nodes::Node;
 use nodes::read_header;
 use nodes::read_node;
@@ -20,9 +21,6 @@ pub enum Found {
     // The key is kept, and its last committed write was a delete.
     Tombstone { position: u32 },
 }
-
-// The number that names no node.
-const NO_NODE: u32 = 4294967295;
 
 // The kind of a leaf that is a tombstone.
 const TOMBSTONE: u32 = 2;

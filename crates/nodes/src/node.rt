@@ -6,6 +6,9 @@ ghost use Prim.Native.Nat.{_+_, _≤_};
 ghost use lib.ListN.{length};
 ghost use Rattle.nodes.specs.Nodes.{base, nodeAt, putNode};
 
+// The number that names no node.
+pub const NO_NODE: u32 = 4294967295;
+
 pub struct Node {
     // 0 in a leaf; 1 to 32 in an inner node, which splits at bit height - 1; 4,294,967,295 in a free node.
     pub height: u32,

@@ -8,7 +8,7 @@ use native.Mathlib.Omega.{arith}
 use lib.ListN.{length, getD, take, drop, length-append}
 use lib.Seq.{sets, sets-eq, take-at, drop-at}
 use Rattle.words.specs.Word.{bigEndian, putWord}
-use Rattle.words.specs.Laws.{length-bigEndian, byte-put}
+use Rattle.words.specs.Laws.{length-bigEndian, put-sets, byte-put}
 use Rattle.record.specs.Record.{Rec, version, pointsBytes, scansBytes, bodyBytes, bytesOf}
 use Rattle.record.proofs.Sizes.{body-size, whole-size}
 use Rattle.rules.specs.Refresh.{at}
@@ -45,12 +45,11 @@ same-size p r = omega (arith, whole-size (at p r), whole-size r, same-body p r)
 
 -- "the same record with snapshot p", whatever follows it
 pub snapshot-stored : (p : ℕ) (r : Rec) (t : List ℕ) → putWord 4 (bytesOf r ++ t) 3 p ≡ bytesOf (at p r) ++ t
-unfolding putWord
 snapshot-stored p r t =
     let n : ℕ = length (bodyBytes r) in
     let head : List ℕ = bigEndian 2 n ++ (version ∷ []) in
     let three : length head ≡ 3 = omega (arith, length-append (bigEndian 2 n) (version ∷ []), length-bigEndian 2 n) in
-    ap (λ (l : List ℕ). sets l 3 (bigEndian 4 p)) (apart n (bigEndian 4 (r .snapshot)) (behind r) t)
+    put-sets 4 (bytesOf r ++ t) 3 p ∙ ap (λ (l : List ℕ). sets l 3 (bigEndian 4 p)) (apart n (bigEndian 4 (r .snapshot)) (behind r) t)
     ∙ stored-behind head (bigEndian 4 (r .snapshot)) (bigEndian 4 p) (behind r ++ t) three (length-bigEndian 4 (r .snapshot)) (length-bigEndian 4 p)
     ∙ sym (apart n (bigEndian 4 p) (behind r) t)
     ∙ ap (λ (k : ℕ). whole k (bigEndian 4 p) (behind r) ++ t) (sym (same-body p r))

@@ -2,8 +2,8 @@
 mod cursor;
 mod search;
 
+use nodes::NO_NODE;
 use nodes::read_header;
-use search::NO_NODE;
 use search::search;
 ghost use mathlib.Core.Path.{_≡_};
 ghost use Rattle.pool.specs.Image.{Arrangement, Image, Fit};

@@ -2,6 +2,7 @@
 use crate::cursor::forward;
 use crate::cursor::touched;
 use crate::cursor::widen;
+use nodes::NO_NODE;
 use nodes::read_node;
 ghost use mathlib.Core.Path.{_≡_};
 ghost use Prim.Native.Nat.{_+_, _^_, _≤_};
@@ -14,9 +15,6 @@ pub struct Progress {
     pub point: usize,
     pub scan: usize,
 }
-
-// The number that names no node.
-pub const NO_NODE: u32 = 4294967295;
 
 // The search so far.
 fn so_far(leaf: u32, looks: u32, point: usize, scan: usize) -> Progress

@@ -23,6 +23,11 @@ length-put k s at x = length-sets s at (bigEndian k x)
 
 -- A RUN OF STORES, BYTE BY BYTE
 
+-- a number stored is a run of its bytes
+pub put-sets : (k : ℕ) (s : List ℕ) (at x : ℕ) → putWord k s at x ≡ sets s at (bigEndian k x)
+unfolding putWord
+put-sets k s at x = refl
+
 -- a byte outside the run is as it was
 pub sets-outside : (vs s : List ℕ) (at j : ℕ) → (j < at) ⊎ (at + length vs ≤ j) → getD (sets s at vs) j 0 ≡ getD s j 0
 sets-outside [] s at j w = refl

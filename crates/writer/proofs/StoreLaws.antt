@@ -1,7 +1,7 @@
 -- What the second pass meets: stores one behind the other are one run of stores, and each turn of a loop leaves the rest of the run.
 -- Assumes nothing.
 use Prim.Native.Nat.{ℕ, suc, _+_, _^_, _≤_, _<_}
-use mathlib.Core.Path.{_≡_, refl, sym, ap, _∙_}
+use mathlib.Core.Path.{_≡_, sym, ap, _∙_}
 use mathlib.Core.Bool.{cond}
 use mathlib.Core.List.{List, [], _∷_, _++_, append-nil}
 use native.Mathlib.Omega.{arith}
@@ -11,15 +11,10 @@ use lib.Seq.{sets, length-sets, drop-cons}
 use lib.Dec.{eqb}
 use borrow.Author.Tests.{ne-eqb}
 use Rattle.words.specs.Word.{bigEndian, putWord}
-use Rattle.words.specs.Laws.{length-bigEndian, length-put, sets-append}
+use Rattle.words.specs.Laws.{length-bigEndian, length-put, put-sets, sets-append}
 use Rattle.writer.specs.Stored.{headBytes, storedPoint, storedPoints, storedScan, storedScans}
 
--- A NUMBER STORED IS A RUN OF STORES
-
--- a number stored is a run of its bytes
-pub put-sets : (k : ℕ) (s : List ℕ) (at x : ℕ) → putWord k s at x ≡ sets s at (bigEndian k x)
-unfolding putWord
-put-sets k s at x = refl
+-- A NUMBER STORED IS A RUN OF STORES (`put-sets`)
 
 -- the run behind a number
 behind : (k x : ℕ) (vs s : List ℕ) (at : ℕ) → sets s at (bigEndian k x ++ vs) ≡ sets (sets s at (bigEndian k x)) (at + k) vs
