@@ -1,0 +1,75 @@
+-- A card that has read some records of a log has melded the first of the parts that the log's walk hands out.
+-- Assumes nothing.
+use Prim.Native.Nat.{ℕ, zero, suc, _+_, _-_, _≤_, _<_}
+use mathlib.Core.Path.{_≡_, refl, sym, ap, _∙_, subst}
+use mathlib.Core.List.{List, [], _∷_}
+use native.Mathlib.Omega.{arith}
+use native.Mathlib.Decide.{decLt}
+use lib.ListN.{length, take, drop, getD, length-take, length-drop, List·getD-eq-default}
+use lib.Seq.{getD-take}
+use denote.Ref.{RefT, now}
+use Rattle.words.specs.Word.{Bytes}
+use Rattle.words.specs.Laws.{bytes-drop}
+use Rattle.log.specs.declared.found.Cut.{Cut}
+use Rattle.log.specs.declared.found.Cut.the-variants.{End, Broken, Record}
+use Rattle.log.specs.Log.{cutAt, partOf, CutIs, HandedOut}
+use Rattle.log.specs.Walk.{Walks, ends, breaks, hands}
+use Rattle.log.proofs.Stands.{end-not-record, broken-not-record, same-next}
+use Rattle.meld.specs.declared.melding.Melded.{Melded}
+use Rattle.meld.specs.Melds.{Melds}
+use Rattle.demands.specs.Runs.{Melding, none-left, Reading, so-far, isOver}
+use Rattle.demands.proofs.Following.{AllBytes, no-bytes, more-bytes}
+
+-- A LOG'S PARTS ARE BYTES
+
+-- the first of some bytes
+pub bytes-take : (n : ℕ) (s : List ℕ) → Bytes s → Bytes (take n s)
+bytes-take n s b = record { byte = λ i. elim (decLt i n) [ yes l ↦ rw (getD-take n s i 0 l) (b .byte i) | no g ↦ past i (omega arith) ] }
+  where
+    past : (i : ℕ) → n ≤ i → getD (take n s) i 0 < 256
+    past i g = rw (List·getD-eq-default (take n s) 0 {n = i} (omega (arith, length-take n s))) (omega arith)
+
+-- what the walk hands out
+pub parts-bytes : {log : List ℕ} {place : ℕ} {parts : List (List ℕ)} {last : Cut} → Bytes log → Walks log place parts last → AllBytes parts
+parts-bytes b (ends e) = no-bytes
+parts-bytes b (breaks e) = no-bytes
+parts-bytes {log = log} {place = place} b (hands {next = next} e w) = more-bytes (bytes-take (next - place) (drop place log) (bytes-drop place log b)) (parts-bytes b w)
+
+-- the first of several
+pub first-bytes : (n : ℕ) {parts : List (List ℕ)} → AllBytes parts → AllBytes (take n parts)
+first-bytes zero b = no-bytes
+first-bytes (suc n) no-bytes = no-bytes
+first-bytes (suc n) (more-bytes b bs) = more-bytes b (first-bytes n bs)
+
+-- WHAT WAS READ IS THE FRONT OF THE WALK
+
+-- so many parts were handed out, and the walk goes on from the place
+pub record Front (log : List ℕ) (place : ℕ) (m : List ℕ) (xs : List Melded) (m′ : List ℕ) (parts : List (List ℕ)) (last : Cut) : Type 0 where
+  pub few : length xs ≤ length parts
+  pub melding : Melding m (take (length xs) parts) xs m′
+  pub rest : Walks log place (drop (length xs) parts) last
+
+-- one record, where the walk hands out the same
+pub reading-front : {log : List ℕ} {place place′ : ℕ} {m m′ : List ℕ} {xs : List Melded} {parts : List (List ℕ)} {last : Cut}
+    → Reading log place m xs place′ m′ → Walks log place parts last → Front log place′ m xs m′ parts last
+reading-front so-far w = record { few = omega arith; melding = none-left; rest = w }
+reading-front (Reading.one-more l c h d t) (ends e) = end-not-record (sym e ∙ sym (c .case))
+reading-front (Reading.one-more l c h d t) (breaks e) = broken-not-record (sym e ∙ sym (c .case))
+reading-front {log = log} {place = place} {m = m} (Reading.one-more {next = next} {m′ = m₁} {a = a} {lent = lent} {part = part} l c h d t) (hands {next = other} {parts = parts} {last = last} e w) =
+    let same : other ≡ next = same-next (sym e ∙ sym (c .case)) in
+    let bytes : now part ≡ partOf (Record other) log place = h .bytes ∙ ap (λ (s : List ℕ). partOf (cutAt s place) s place) l ∙ ap (λ (x : Cut). partOf x log place) e in
+    let f = reading-front t (subst (λ (n : ℕ). Walks log n parts last) same w) in
+    record { few = omega (arith, f .few); melding = Melding.one-more (subst (λ (s : List ℕ). Melds m s m₁ a) bytes d) (f .melding); rest = f .rest }
+
+-- where `cut` finds no record any more, the whole walk was read
+pub whole-read : {log : List ℕ} {place : ℕ} {m m′ : List ℕ} {xs : List Melded} {parts : List (List ℕ)} {last c : Cut}
+    → Front log place m xs m′ parts last → CutIs log place c → isOver c → (length xs ≡ length parts) × (c ≡ last)
+whole-read {log = log} {place = place} {xs = xs} {parts = parts} {c = c} f i o = go (drop (length xs) parts) refl (f .rest)
+  where
+    left : length (drop (length xs) parts) ≡ 0 → length xs ≡ length parts
+    left z = omega (arith, length-drop (length xs) parts, f .few)
+
+    go : {last : Cut} (rest : List (List ℕ)) → drop (length xs) parts ≡ rest → Walks log place rest last → (length xs ≡ length parts) × (c ≡ last)
+    go rest d (ends e) = (left (ap (length {A = List ℕ}) d), i .case ∙ e)
+    go rest d (breaks e) = (left (ap (length {A = List ℕ}) d), i .case ∙ e)
+    go rest d (hands e w) = absurd (subst isOver (i .case ∙ e) o)

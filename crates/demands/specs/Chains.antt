@@ -1,0 +1,53 @@
+-- Demand 3 on bytes: a record refreshed at pools of a log, the record in force taken each time, then melded.
+-- Assumes nothing: these are definitions.
+use Prim.Native.Nat.{ℕ, _≤_}
+use mathlib.Core.Path.{_≡_}
+use mathlib.Core.List.{List, [], _∷_}
+use lib.ListN.{length}
+use denote.Ref.{RefT, now}
+use Rattle.record.specs.declared.answer.Answer.{Answer}
+use Rattle.record.specs.Answer.{committed, conflict}
+use Rattle.rules.specs.Demands.{lastOf}
+use Rattle.refresh.specs.Refreshed.{RefreshIs}
+use Rattle.force.specs.Force.{InForce}
+use Rattle.meld.specs.declared.melding.Melded.{Melded}
+use Rattle.meld.specs.Melds.{Melds}
+use Rattle.demands.specs.Runs.{PoolAt}
+
+-- one call of `refresh` on a pool with room enough, and one of `in_force` on what it answers: the answer, and the record in force then
+pub record RefreshedTo (m original : List ℕ) (a : Answer) (result : List ℕ) : Type 0 where
+  pub before : List ℕ
+  pub after : List ℕ
+  pub room : length original ≤ length before
+  pub refreshed : RefreshIs m original before a after
+  pub lent : RefT (List ℕ)
+  pub buffer : RefT (List ℕ)
+  pub part : RefT (List ℕ)
+  pub lent-is : now lent ≡ original
+  pub buffer-is : now buffer ≡ after
+  pub in-force : InForce a lent buffer part
+  pub part-is : now part ≡ result
+
+-- a record refreshed at the pool after q records of a log, and on at those of further stops, as long as each refresh answers 0: the
+-- last answer, and the record in force then
+pub data Chain (N Z : ℕ) (log : List ℕ) : List ℕ → ℕ → List ℕ → Answer → List ℕ → Type 0 where
+  last-stop : {original m result : List ℕ} {q : ℕ} {a : Answer} → PoolAt N Z log q m → RefreshedTo m original a result → Chain N Z log original q [] a result
+  refused : {original m result : List ℕ} {q q′ : ℕ} {qs : List ℕ} {a : Answer} → PoolAt N Z log q m → RefreshedTo m original a result → (a ≡ committed → ⊥)
+      → Chain N Z log original q (q′ ∷ qs) a result
+  further : {original m between result : List ℕ} {q q′ : ℕ} {qs : List ℕ} {a : Answer} → PoolAt N Z log q m → RefreshedTo m original committed between
+      → Chain N Z log between q′ qs a result → Chain N Z log original q (q′ ∷ qs) a result
+
+-- "melding the result gives the original's answer and state in no more looks": and the same bytes of the pool
+pub record SameMeld (m original result : List ℕ) : Type 0 where
+  pub same : (m₁ m₂ : List ℕ) (x₁ x₂ : Melded) → Melds m original m₁ x₁ → Melds m result m₂ x₂
+      → (x₂ .answer ≡ x₁ .answer) × (m₂ ≡ m₁) × (x₂ .looks ≤ x₁ .looks)
+
+-- "the chain equals one refresh at its last stop": which answers 0 too, and gives the same bytes
+pub record SameRefresh (N Z : ℕ) (log original : List ℕ) (q : ℕ) (result : List ℕ) : Type 0 where
+  pub same : (m : List ℕ) (a : Answer) (once : List ℕ) → PoolAt N Z log q m → RefreshedTo m original a once → (a ≡ committed) × (once ≡ result)
+
+-- the two outcomes of a chain that answers a, where m is the pool at the place of the meld: "Either a refresh says conflict, and so does
+-- melding the original at that place; or the chain equals one refresh at its last stop, and melding the result" is melding the original
+pub data ChainEnds (N Z : ℕ) (log m original : List ℕ) (last : ℕ) (a : Answer) (result : List ℕ) : Type 0 where
+  stopped : a ≡ conflict → ((m′ : List ℕ) (x : Melded) → Melds m original m′ x → x .answer ≡ conflict) → ChainEnds N Z log m original last a result
+  carried : a ≡ committed → SameRefresh N Z log original last result → SameMeld m original result → ChainEnds N Z log m original last a result

@@ -1,0 +1,5 @@
+pub mod Runs
+pub mod Follows
+pub mod Chains
+pub mod Touches
+pub mod Fakes

@@ -1,0 +1,49 @@
+-- Demand 1: which lent bytes can differ at exit, by the answer. Functions that are lent everything by `&` change nothing: `check`, `cut`,
+-- `part`, `fit`, `lookup`, `in_force`.
+-- Assumes nothing: these are definitions.
+use Prim.Native.Nat.{ℕ, _≤_, _<_}
+use mathlib.Core.Path.{_≡_}
+use mathlib.Core.Logic.{_⊎_}
+use mathlib.Core.List.{List}
+use lib.ListN.{length, getD}
+use Rattle.record.specs.declared.answer.Answer.{Answer}
+use Rattle.record.specs.declared.reader.Reading.{Reading}
+use Rattle.record.specs.Answer.{committed, positionsUsedUp, unfitPool, badLimits}
+use Rattle.record.specs.Reader.{Lists}
+use Rattle.writer.specs.declared.Written.{Written}
+
+-- no more than the elements from .. to − 1 can differ, and there are as many as before
+pub record Within (from to : ℕ) (before after : List ℕ) : Type 0 where
+  pub size : length after ≡ length before
+  pub others : (i : ℕ) → (i < from) ⊎ (to ≤ i) → getD after i 0 ≡ getD before i 0
+
+-- `create`: nothing on 9; on 0 the pool, whole
+pub record CreateTouches (m : List ℕ) (a : Answer) (m′ : List ℕ) : Type 0 where
+  pub answers : (a ≡ committed) ⊎ (a ≡ badLimits)
+  pub refusal : a ≡ badLimits → m′ ≡ m
+  pub commit : length m′ ≡ length m
+
+-- `meld`: nothing on 7 and 6; on 4, 5, 2, 1 and 3 the position, bytes 12 to 15; on 0 the pool
+pub record MeldTouches (m : List ℕ) (a : Answer) (m′ : List ℕ) : Type 0 where
+  pub refusal : (a ≡ unfitPool) ⊎ (a ≡ positionsUsedUp) → m′ ≡ m
+  pub abort : (a ≡ committed → ⊥) → Within 12 16 m m′
+  pub commit : length m′ ≡ length m
+
+-- `refresh`: nothing unless 0; then the front of the output, as long as the original
+pub record RefreshTouches (original before : List ℕ) (a : Answer) (after : List ℕ) : Type 0 where
+  pub refusal : (a ≡ committed → ⊥) → after ≡ before
+  pub commit : Within 0 (length original) before after
+
+-- `write`: nothing unless 0; then the front of the output, as long as the record's size
+pub record WriteTouches (before : List ℕ) (w : Written) (after : List ℕ) : Type 0 where
+  pub refusal : (w .answer ≡ committed → ⊥) → after ≡ before
+  pub commit : Within 0 (w .size) before after
+
+-- `read`: nothing unless 0; then the fronts of the lists, as many elements as there are points and scans
+pub record ReadTouches (before : Lists) (r : Reading) (after : Lists) : Type 0 where
+  pub refusal : (r .answer ≡ committed → ⊥) → after ≡ before
+  pub kinds : Within 0 (r .points) (before .kinds) (after .kinds)
+  pub keys : Within 0 (r .points) (before .keys) (after .keys)
+  pub payloads : Within 0 (r .points) (before .payloads) (after .payloads)
+  pub lows : Within 0 (r .scans) (before .lows) (after .lows)
+  pub highs : Within 0 (r .scans) (before .highs) (after .highs)
