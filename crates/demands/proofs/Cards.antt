@@ -1,24 +1,24 @@
 -- Demand 2 on bytes: what a card answers and what its pool is after a log; every card has the same; and so for a log that is cut.
 -- Assumes nothing.
-use Prim.Native.Nat.{ℕ, zero, suc, _+_, _-_, _≤_, _<_}
+use Prim.Native.Nat.{ℕ, zero, suc, _+_, _-_, _≤_}
 use mathlib.Core.Path.{_≡_, refl, sym, ap, _∙_, subst}
 use mathlib.Core.Bool.{Bool, true, false}
 use mathlib.Core.List.{List, [], _∷_, _++_, map}
 use native.Mathlib.Omega.{arith}
-use lib.ListN.{length, take, length-append, length-map}
-use lib.Seq.{take-all, length-take-le, take-append-seam, take-take}
+use lib.ListN.{length, take}
+use lib.Seq.{take-all, take-append-seam}
 use Rattle.words.specs.Word.{Bytes}
 use Rattle.record.specs.declared.answer.Answer.{Answer}
 use Rattle.record.specs.Answer.{committed}
 use Rattle.record.specs.Parse.{parse}
 use Rattle.log.specs.declared.found.Cut.{Cut}
-use Rattle.log.specs.declared.found.Cut.the-variants.{End, Broken, Record}
-use Rattle.log.specs.Walk.{Walks, CutLog}
+use Rattle.log.specs.declared.found.Cut.the-variants.{End}
+use Rattle.log.specs.Walk.{Walks}
 use Rattle.log.proofs.Walk.{walked, walks-once}
 use Rattle.log.proofs.CutLog.{cut-log}
 use Rattle.rules.specs.State.{State, fresh}
 use Rattle.rules.specs.Verdict.{next}
-use Rattle.rules.specs.Log.{after, stateAt}
+use Rattle.rules.specs.Log.{after}
 use Rattle.pool.specs.Image.{Image, stateOf}
 use Rattle.pool.proofs.Fixed.{one-image}
 use Rattle.create.specs.Fresh.{Created, freshPlan, limitsOk}
@@ -27,7 +27,7 @@ use Rattle.meld.specs.declared.melding.Melded.{Melded}
 use Rattle.meld.specs.Melds.{meldedOf}
 use Rattle.demands.specs.Runs.{verdicts, Card, Whole}
 use Rattle.demands.specs.Follows.{Follows, FollowsWhole, CutRun}
-use Rattle.demands.proofs.Following.{AllBytes, arranged, Followed, melding-follows}
+use Rattle.demands.proofs.Following.{arranged, Followed, melding-follows}
 use Rattle.demands.proofs.Reading.{bytes-take, parts-bytes, first-bytes, Front, reading-front, whole-read}
 
 -- THE POOL AFTER A LOG

@@ -2,7 +2,7 @@
 -- The idea: pools of a log mean the rules' states, one refresh on bytes is one of the rules (Once.antt), so a chain on bytes is the rules'
 -- chain and `demand-three` speaks of it. The same points and the same verdict leave the same arrangement, and that has one image.
 -- Assumes nothing.
-use Prim.Native.Nat.{ℕ, _+_, _-_, _≤_, _<_}
+use Prim.Native.Nat.{ℕ, _-_, _≤_, _<_}
 use mathlib.Core.Path.{_≡_, refl, sym, ap, _∙_, subst}
 use mathlib.Core.Option.{Option, some}
 use mathlib.Core.List.{List, [], _∷_, map}
@@ -21,7 +21,6 @@ use Rattle.log.proofs.Walk.{walked}
 use Rattle.rules.specs.State.{State, lastPosition}
 use Rattle.rules.specs.Verdict.{Verdict, conflict, answerOf, verdict}
 use Rattle.rules.specs.Log.{stateAt}
-use Rattle.rules.specs.Tree.{looksOf}
 use Rattle.rules.specs.Refresh.{Refreshed, done, refresh, onward, chain}
 use Rattle.rules.specs.Refresh as Rules
 use Rattle.rules.specs.Demands.{InOrder, lastOf, MeldsAs, Outcome}
@@ -34,7 +33,7 @@ use Rattle.meld.specs.declared.melding.Melded.{Melded}
 use Rattle.meld.specs.After.{leftIn, afterIn}
 use Rattle.meld.specs.Melds.{Melds, meldedOf}
 use Rattle.demands.specs.Runs.{Means, PoolAt}
-use Rattle.demands.specs.Chains.{RefreshedTo, Chain, last-stop, refused, further, SameMeld, SameRefresh, ChainEnds, stopped, carried}
+use Rattle.demands.specs.Chains.{Chain, last-stop, refused, further, SameMeld, SameRefresh, ChainEnds, stopped, carried}
 use Rattle.demands.proofs.Cards.{card-follows}
 use Rattle.demands.proofs.Once.{Once, went, said, once}
 

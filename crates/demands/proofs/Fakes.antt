@@ -1,16 +1,14 @@
 -- The fakes of document 01 keep no promise: for each, a small pool on which it would have to answer otherwise.
 -- Assumes nothing.
-use Prim.Native.Nat.{ℕ, _+_, _≤_}
+use Prim.Native.Nat.{ℕ}
 use mathlib.Core.Path.{_≡_, refl, sym, ap, _∙_, subst}
-use mathlib.Core.Bool.{true}
-use mathlib.Core.Option.{Option, none, some}
+use mathlib.Core.Option.{Option, some}
 use mathlib.Core.List.{List, [], _∷_}
 use native.Mathlib.Omega.{arith}
 use native.Mathlib.Decide.{decLt}
 use lib.ListN.{length, take, getD, replicate, getD-replicate, length-replicate, List·getD-eq-default}
 use Rattle.words.specs.Word.{Bytes, bigEndian}
 use Rattle.record.specs.declared.answer.Answer.{Answer}
-use Rattle.record.specs.Answer as Names
 use Rattle.record.specs.declared.point.Point.the-variants.{Put}
 use Rattle.record.specs.Record.{Rec, Valid, bytesOf}
 use Rattle.record.specs.Parse.{parse}

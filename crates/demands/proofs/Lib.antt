@@ -6,3 +6,4 @@ pub mod Chains
 pub mod Position
 pub mod Touches
 pub mod Fakes
+pub mod Answers

@@ -8,7 +8,7 @@ use mathlib.Core.List.{List, [], _++_}
 use native.Mathlib.Omega.{arith}
 use lib.ListN.{length, take, drop, take-append-drop}
 use lib.Seq.{take-append-seam}
-use denote.Ref.{RefT, now}
+use denote.Ref.{now}
 use Rattle.words.specs.Word.{Bytes}
 use Rattle.record.specs.declared.answer.Answer.{Answer}
 use Rattle.record.specs.Answer.{committed}
@@ -22,9 +22,8 @@ use Rattle.log.specs.Walk.{Sized}
 use Rattle.log.proofs.Same.{cut-here}
 use Rattle.rules.specs.State.{State, lastPosition}
 use Rattle.rules.specs.Verdict.{Verdict, answerOf}
-use Rattle.rules.specs.Refresh.{at, Refreshed, done, refused, answerTo, refresh}
+use Rattle.rules.specs.Refresh.{at, Refreshed, done, refused, refresh}
 use Rattle.rules.proofs.Refreshing.{Refreshes, refresh-exactly, refreshed-valid}
-use Rattle.pool.specs.Image.{stateOf}
 use Rattle.refresh.specs.Refreshed.{Outcome, outcome, leftBy, refreshedOf}
 use Rattle.refresh.proofs.Output.{FrontIs, Refreshable, after-zero, zero-exactly}
 use Rattle.force.specs.Force.{sourceOf, ifCut, bytesFrom}

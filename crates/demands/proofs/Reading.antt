@@ -1,18 +1,18 @@
 -- A card that has read some records of a log has melded the first of the parts that the log's walk hands out.
 -- Assumes nothing.
-use Prim.Native.Nat.{ℕ, zero, suc, _+_, _-_, _≤_, _<_}
+use Prim.Native.Nat.{ℕ, zero, suc, _-_, _≤_, _<_}
 use mathlib.Core.Path.{_≡_, refl, sym, ap, _∙_, subst}
-use mathlib.Core.List.{List, [], _∷_}
+use mathlib.Core.List.{List}
 use native.Mathlib.Omega.{arith}
 use native.Mathlib.Decide.{decLt}
 use lib.ListN.{length, take, drop, getD, length-take, length-drop, List·getD-eq-default}
 use lib.Seq.{getD-take}
-use denote.Ref.{RefT, now}
+use denote.Ref.{now}
 use Rattle.words.specs.Word.{Bytes}
 use Rattle.words.specs.Laws.{bytes-drop}
 use Rattle.log.specs.declared.found.Cut.{Cut}
-use Rattle.log.specs.declared.found.Cut.the-variants.{End, Broken, Record}
-use Rattle.log.specs.Log.{cutAt, partOf, CutIs, HandedOut}
+use Rattle.log.specs.declared.found.Cut.the-variants.{Record}
+use Rattle.log.specs.Log.{cutAt, partOf, CutIs}
 use Rattle.log.specs.Walk.{Walks, ends, breaks, hands}
 use Rattle.log.proofs.Stands.{end-not-record, broken-not-record, same-next}
 use Rattle.meld.specs.declared.melding.Melded.{Melded}

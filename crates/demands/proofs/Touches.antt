@@ -3,14 +3,14 @@
 use Prim.Native.Nat.{ℕ, _+_, _-_, _*_, _≤_, _<_}
 use mathlib.Core.Path.{_≡_, refl, sym, ap, _∙_, subst}
 use mathlib.Core.Logic.{_⊎_, inl, inr, ⊎-elim}
-use mathlib.Core.Bool.{Bool, true, false, cond, _&&_}
+use mathlib.Core.Bool.{Bool, true, false, cond}
 use mathlib.Core.Option.{Option, none, some}
-use mathlib.Core.List.{List, [], _∷_, _++_, map}
+use mathlib.Core.List.{List, map}
 use native.Mathlib.Omega.{arith}
 use native.Mathlib.Decide.{ℕ-discrete}
 use lib.ListN.{length, getD, drop, length-append, length-drop, length-map}
 use lib.Seq.{getD-append-add, getD-drop}
-use lib.Dec.{leb, ltb, eqb}
+use lib.Dec.{leb}
 use borrow.Author.Tests.{leb-true, eqb-true}
 use Rattle.words.specs.Word.{Bytes}
 use Rattle.record.specs.declared.answer.Answer.{Answer}
@@ -29,7 +29,7 @@ use Rattle.rules.specs.Verdict.{Verdict, committed, conflict, tooOld, noRoom, m
 use Rattle.pool.specs.Image.{Arrangement, Image, Fit, stateOf}
 use Rattle.pool.proofs.Fixed.{one-image}
 use Rattle.fit.proofs.Decided.{fit-or-not}
-use Rattle.create.specs.Fresh.{Created, limitsOk, freshPlan}
+use Rattle.create.specs.Fresh.{Created, limitsOk}
 use Rattle.meld.specs.declared.melding.Melded.{Melded}
 use Rattle.meld.specs.After.{afterIn, leftIn}
 use Rattle.meld.specs.Melds.{Melds}

@@ -7,7 +7,6 @@ use lib.ListN.{length}
 use denote.Ref.{RefT, now}
 use Rattle.record.specs.declared.answer.Answer.{Answer}
 use Rattle.record.specs.Answer.{committed, conflict}
-use Rattle.rules.specs.Demands.{lastOf}
 use Rattle.refresh.specs.Refreshed.{RefreshIs}
 use Rattle.force.specs.Force.{InForce}
 use Rattle.meld.specs.declared.melding.Melded.{Melded}

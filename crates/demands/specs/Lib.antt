@@ -3,3 +3,4 @@ pub mod Follows
 pub mod Chains
 pub mod Touches
 pub mod Fakes
+pub mod Answers

@@ -3,17 +3,16 @@
 -- Assumes nothing: these are definitions.
 use Prim.Native.Nat.{ℕ}
 use mathlib.Core.Path.{_≡_}
-use mathlib.Core.List.{List, [], _∷_, map}
-use lib.ListN.{length, take}
+use mathlib.Core.List.{List, [], _∷_}
+use lib.ListN.{length}
 use denote.Ref.{RefT, now}
 use Rattle.record.specs.Answer.{committed}
 use Rattle.record.specs.Parse.{parse}
 use Rattle.log.specs.declared.found.Cut.{Cut}
 use Rattle.log.specs.declared.found.Cut.the-variants.{End, Broken, Record}
 use Rattle.log.specs.Log.{CutIs, HandedOut}
-use Rattle.rules.specs.State.{State, fresh}
+use Rattle.rules.specs.State.{State}
 use Rattle.rules.specs.Verdict.{next}
-use Rattle.rules.specs.Log.{stateAt}
 use Rattle.pool.specs.Image.{Arrangement, Image, stateOf}
 use Rattle.create.specs.Fresh.{Created}
 use Rattle.meld.specs.declared.melding.Melded.{Melded}

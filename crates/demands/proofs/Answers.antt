@@ -1,0 +1,107 @@
+-- No second answer, for every public function, in one place. Where the promise is an equation it is the one law `one-if-equal`.
+-- The slices that `part`, `part_at` and `in_force` give back are the same bytes at the same place of the same memory (`SameSlice`); the
+-- name under which the logic tracks a slice stays open, and no program sees it.
+-- Assumes nothing.
+use Prim.Native.Nat.{ℕ}
+use mathlib.Core.Path.{_≡_, sym, _∙_}
+use mathlib.Core.Bool.{Bool}
+use mathlib.Core.List.{List, map}
+use denote.Ref.{RefT}
+use Rattle.words.specs.Word.{Bytes}
+use Rattle.record.specs.declared.answer.Answer.{Answer}
+use Rattle.record.specs.declared.point.Point.{Point}
+use Rattle.record.specs.declared.point.Scan.{Scan}
+use Rattle.record.specs.Record.{kindOf, keyOf, payloadOf}
+use Rattle.record.specs.Parse.{parse, checkOf}
+use Rattle.record.specs.Reader.{Lists, lists, lowOf, highOf, readOf}
+use Rattle.record.specs.Reader as Reader
+use Rattle.writer.specs.Writer.{recordOf, writeOf}
+use Rattle.writer.specs.Writer as Writer
+use Rattle.log.specs.declared.found.Cut.{Cut}
+use Rattle.log.specs.Log.{CutIs, HandedOut}
+use Rattle.log.proofs.Only.{SameSlice, only-cut, only-part}
+use Rattle.walker.specs.declared.LogReader.{LogReader}
+use Rattle.walker.specs.declared.Step.{Step}
+use Rattle.walker.specs.declared.Move.{Move}
+use Rattle.walker.specs.Walker.{Stepped, Moved}
+use Rattle.walker.proofs.Only.{SameStep, only-step, only-step-at}
+use Rattle.pool.specs.Image.{Fit}
+use Rattle.fit.specs.Whole.{Decides}
+use Rattle.fit.proofs.Promises as Fitness
+use Rattle.create.specs.Fresh.{Created}
+use Rattle.create.proofs.Only as Creation
+use Rattle.meld.specs.declared.kept.Lookup.{Lookup}
+use Rattle.meld.specs.declared.melding.Melded.{Melded}
+use Rattle.meld.specs.Lookups.{LooksUp}
+use Rattle.meld.specs.Melds.{Melds}
+use Rattle.meld.proofs.Only.{only-meld, only-lookup}
+use Rattle.refresh.specs.Refreshed.{RefreshIs}
+use Rattle.refresh.proofs.Only.{refresh-only}
+use Rattle.force.specs.Force.{InForce}
+use Rattle.force.proofs.Only.{in-force-only}
+use Rattle.demands.specs.Answers.{OneAnswer}
+
+-- WHERE THE PROMISE IS AN EQUATION
+
+-- what equals one thing is one
+pub one-if-equal : {A : Type 0} (z : A) → OneAnswer (λ (x : A). x ≡ z)
+one-if-equal z x y e f = e ∙ sym f
+
+pub check-one : (bytes : List ℕ) → OneAnswer (λ (a : Answer). a ≡ checkOf (parse bytes))
+check-one bytes = one-if-equal (checkOf (parse bytes))
+
+pub read-one : (bytes : List ℕ) (before : Lists) → OneAnswer (λ (o : Reader.Outcome). o ≡ readOf (parse bytes) before)
+read-one bytes before = one-if-equal (readOf (parse bytes) before)
+
+pub kind-one : (p : Point) → OneAnswer (λ (n : ℕ). n ≡ kindOf p)
+kind-one p = one-if-equal (kindOf p)
+
+pub key-one : (p : Point) → OneAnswer (λ (n : ℕ). n ≡ keyOf p)
+key-one p = one-if-equal (keyOf p)
+
+pub payload-one : (p : Point) → OneAnswer (λ (n : ℕ). n ≡ payloadOf p)
+payload-one p = one-if-equal (payloadOf p)
+
+pub write-one : (snapshot : ℕ) (l : Lists) (before : List ℕ) → OneAnswer (λ (o : Writer.Outcome). o ≡ writeOf (recordOf snapshot l) before)
+write-one snapshot l before = one-if-equal (writeOf (recordOf snapshot l) before)
+
+pub write-pairs-one : (snapshot : ℕ) (ks es xs : List ℕ) (cs : List Scan) (before : List ℕ)
+    → OneAnswer (λ (o : Writer.Outcome). o ≡ writeOf (recordOf snapshot (lists ks es xs (map lowOf cs) (map highOf cs))) before)
+write-pairs-one snapshot ks es xs cs before = one-if-equal (writeOf (recordOf snapshot (lists ks es xs (map lowOf cs) (map highOf cs))) before)
+
+-- WHERE IT IS MORE
+
+pub cut-one : (log : List ℕ) (place : ℕ) → OneAnswer (λ (c : Cut). CutIs log place c)
+cut-one log place = only-cut log place
+
+pub step-at-one : (log : List ℕ) (place : ℕ) → OneAnswer (λ (x : Move). Moved log place x)
+step-at-one log place = only-step-at log place
+
+pub fit-one : (m : List ℕ) → OneAnswer (λ (r : Bool). Decides (Fit m) r)
+fit-one m = Fitness.only (Fit m)
+
+-- the answer and the whole pool
+pub create-one : (m : List ℕ) (n z : ℕ) → OneAnswer (λ (x : Answer × List ℕ). Created m n z (x .0) (x .1))
+create-one m n z x y p q = let e = Creation.only m n z (x .0) (y .0) (x .1) (y .1) p q in λ i. (e .0 i, e .1 i)
+
+pub lookup-one : (m : List ℕ) (k : ℕ) → Bytes m → OneAnswer (λ (x : Lookup). LooksUp m k x)
+lookup-one m k b x y p q = only-lookup m k x y b p q
+
+-- answer, looks and the whole pool
+pub meld-one : (m bytes : List ℕ) → Bytes m → OneAnswer (λ (x : Melded × List ℕ). Melds m bytes (x .1) (x .0))
+meld-one m bytes b x y p q = let e = only-meld m bytes (x .1) (y .1) (x .0) (y .0) b p q in λ i. (e .0 i, e .1 i)
+
+-- the answer and the whole output
+pub refresh-one : (m original before : List ℕ) → OneAnswer (λ (x : Answer × List ℕ). RefreshIs m original before (x .0) (x .1))
+refresh-one m original before x y p q = let e = refresh-only m original before (x .0) (y .0) (x .1) (y .1) p q in λ i. (e .0 i, e .1 i)
+
+-- SLICES
+
+pub part-one : (log : RefT (List ℕ)) (place : ℕ) (r q : RefT (List ℕ)) → HandedOut log place r → HandedOut log place q → SameSlice r q
+part-one = only-part
+
+pub step-one : (before after then : LogReader) (r q : Step) → Stepped before after r → Stepped before then q → SameStep r q × (after ≡ then)
+step-one = only-step
+
+pub in-force-one : (a : Answer) (o b r q : RefT (List ℕ)) → InForce a o b r → InForce a o b q → SameSlice r q
+in-force-one a o b r q x y = let e = in-force-only a o b r q x y in record { bytes = e .0; block = e .1; start = e .2 }
