@@ -65,19 +65,17 @@ same-after A r′ r ps v = ap (λ (l : List Point). leftIn A l (verdict (stateOf
 
 -- a record that melds as another by the rules melds so on bytes
 same-meld : (S : State) (m original result : List ℕ) (r r′ : Rec) → Means m S → parse original ≡ some r → parse result ≡ some r′ → r′ .points ≡ r .points → MeldsAs S r′ r → SameMeld m original result
-same-meld S m original result r r′ means is is′ ps h = record { same = same }
-  where
-    same : (m₁ m₂ : List ℕ) (x₁ x₂ : Melded) → Melds m original m₁ x₁ → Melds m result m₂ x₂ → (x₂ .answer ≡ x₁ .answer) × (m₂ ≡ m₁) × (x₂ .looks ≤ x₁ .looks)
-    same m₁ m₂ x₁ x₂ d₁ d₂ =
-        let e₁ = meld-answers S m original r is means m₁ x₁ d₁ in
-        let e₂ = meld-answers S m result r′ is′ means m₂ x₂ d₂ in
-        let v : verdict (stateOf (means .arrangement)) (some r′) ≡ verdict (stateOf (means .arrangement)) (some r) =
-        subst (λ (T : State). verdict T (some r′) ≡ verdict T (some r)) (sym (means .state)) (h .answer) in (
-          ap (λ (x : Melded). x .answer) e₂ ∙ ap answerOf (h .answer) ∙ sym (ap (λ (x : Melded). x .answer) e₁),
-          one-image m₂ m₁ (afterIn (means .arrangement) (some r))
-              (subst (Image m₂) (same-after (means .arrangement) r′ r ps v) (meld-leaves S m result r′ is′ means m₂ x₂ d₂)) (meld-leaves S m original r is means m₁ x₁ d₁),
-          omega (arith, h .looks-le, ap (λ (x : Melded). x .looks) e₁, ap (λ (x : Melded). x .looks) e₂),
-        )
+same-meld S m original result r r′ means is is′ ps h m₁ m₂ x₁ x₂ d₁ d₂ =
+    let e₁ = meld-answers S m original r is means m₁ x₁ d₁ in
+    let e₂ = meld-answers S m result r′ is′ means m₂ x₂ d₂ in
+    let v : verdict (stateOf (means .arrangement)) (some r′) ≡ verdict (stateOf (means .arrangement)) (some r) =
+    subst (λ (T : State). verdict T (some r′) ≡ verdict T (some r)) (sym (means .state)) (h .answer) in
+    record {
+      answer = ap (λ (x : Melded). x .answer) e₂ ∙ ap answerOf (h .answer) ∙ sym (ap (λ (x : Melded). x .answer) e₁);
+      pool = one-image m₂ m₁ (afterIn (means .arrangement) (some r))
+          (subst (Image m₂) (same-after (means .arrangement) r′ r ps v) (meld-leaves S m result r′ is′ means m₂ x₂ d₂)) (meld-leaves S m original r is means m₁ x₁ d₁);
+      looks-le = omega (arith, h .looks-le, ap (λ (x : Melded). x .looks) e₁, ap (λ (x : Melded). x .looks) e₂);
+    }
 
 -- A CHAIN ON BYTES IS THE RULES' CHAIN
 
@@ -134,7 +132,7 @@ module _ (N Z : ℕ) (log : List ℕ) (bytes : Bytes log) (parts : List (List �
 
     -- one refresh at the last stop gives the same bytes
     one-refresh : (q : ℕ) (r′ : Rec) → refresh (St q) (some r) ≡ done r′ → result ≡ bytesOf r′ → SameRefresh N Z log original q result
-    one-refresh q r′ e s = record { same = λ m′ x o k h. go x o (once (St q) m′ original b r is x o (pool-means k) h) }
+    one-refresh q r′ e s m′ x o k h = go x o (once (St q) m′ original b r is x o (pool-means k) h)
       where
         go : (x : Answer) (o : List ℕ) → Once (St q) r x o → (x ≡ Names.committed) × (o ≡ result)
         go x o (went r″ d z v t) = (z, t ∙ ap bytesOf (done-same (sym d ∙ e)) ∙ sym s)

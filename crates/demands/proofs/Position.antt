@@ -18,7 +18,7 @@ use Rattle.pool.proofs.Fixed.{one-image}
 use Rattle.drop.specs.Drop.{onward}
 use Rattle.drop.proofs.Arranging.{onward-arranged}
 use Rattle.drop.proofs.Headers.{image-of}
-use Rattle.demands.specs.Touches.{Within}
+use Rattle.demands.specs.Touches.{Within, positionFrom, positionTo}
 
 -- equal words have equal bytes
 word-byte : (m m′ : List ℕ) (q i : ℕ) → Bytes m → Bytes m′ → 4 * q + 4 ≤ length m → 4 * q + 4 ≤ length m′ → word 4 m′ (4 * q) ≡ word 4 m (4 * q)
@@ -42,7 +42,7 @@ header-words m m′ A i j (suc (suc (suc (suc (suc (suc zero)))))) l n = ap (λ 
 header-words m m′ A i j (suc (suc (suc (suc (suc (suc (suc q))))))) l n = absurd (omega arith)
 
 -- bytes 12 to 15 alone
-pub position-alone : (m m′ : List ℕ) (A : Arrangement) → Image m A → Image m′ (onward A) → Within 12 16 m m′
+pub position-alone : (m m′ : List ℕ) (A : Arrangement) → Image m A → Image m′ (onward A) → Within positionFrom positionTo m m′
 position-alone m m′ A i j = record { size = j .size ∙ sym (i .size); others = others }
   where
     same : m′ ≡ putHeader m (headerOf (onward A))
@@ -50,11 +50,11 @@ position-alone m m′ A i j = record { size = j .size ∙ sym (i .size); others 
         one-image m′ (putHeader m (headerOf (onward A))) (onward A) j
         (image-of m (onward A) (onward-arranged A (omega (arith, j .arranged .lawful .last)) (i .arranged)) (i .size) (i .bytes) (i .zeros) (i .tree) (i .free))
 
-    others : (k : ℕ) → (k < 12) ⊎ (16 ≤ k) → getD m′ k 0 ≡ getD m k 0
+    others : (k : ℕ) → (k < positionFrom) ⊎ (positionTo ≤ k) → getD m′ k 0 ≡ getD m k 0
     others k apart = elim (decLt k 28) [
       | yes l ↦
           let q : k ≡ 4 * (k / 4) + k % 4 = omega arith in
           word-byte m m′ (k / 4) k (i .bytes) (j .bytes) (omega (arith, i .size)) (omega (arith, j .size))
-          (header-words m m′ A i j (k / 4) (omega arith) (⊎-elim (λ (h : k < 12). λ e. omega arith) (λ (h : 16 ≤ k). λ e. omega arith) apart)) (omega arith) (omega arith)
+          (header-words m m′ A i j (k / 4) (omega arith) (⊎-elim (λ (h : k < positionFrom). λ e. omega arith) (λ (h : positionTo ≤ k). λ e. omega arith) apart)) (omega arith) (omega arith)
       | no g ↦ ap (λ (s : List ℕ). getD s k 0) same ∙ byte-header m (headerOf (onward A)) k (omega arith)
     ]

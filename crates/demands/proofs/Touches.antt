@@ -37,7 +37,7 @@ use Rattle.meld.proofs.AfterState.{after-state}
 use Rattle.refresh.specs.Refreshed.{Outcome, RefreshIs}
 use Rattle.refresh.proofs.Only.{untouched}
 use Rattle.refresh.proofs.Output.{FrontIs, after-zero}
-use Rattle.demands.specs.Touches.{Within, CreateTouches, MeldTouches, RefreshTouches, WriteTouches, ReadTouches}
+use Rattle.demands.specs.Touches.{Within, positionFrom, positionTo, CreateTouches, MeldTouches, RefreshTouches, WriteTouches, ReadTouches}
 use Rattle.demands.proofs.Following.{parsed-valid}
 use Rattle.demands.proofs.Position.{position-alone}
 
@@ -89,7 +89,7 @@ next-N S ps usedUp = refl
 module _ (m bytes : List ℕ) (lent : Bytes m) (b : Bytes bytes) (m′ : List ℕ) (x : Melded) (h : Melds m bytes m′ x) where
   -- an unfit pool
   refused : (Fit m → ⊥) → MeldTouches m (x .answer) m′
-  refused u = let e = h .unfit u .unchanged in record { refusal = λ _. e; abort = λ _. within-nothing 12 16 m m′ e; commit = ap (length {A = ℕ}) e }
+  refused u = let e = h .unfit u .unchanged in record { refusal = λ _. e; abort = λ _. within-nothing positionFrom positionTo m m′ e; commit = ap (length {A = ℕ}) e }
 
   module _ (A : Arrangement) (i : Image m A) where
     -- the pool afterwards is as large
@@ -109,7 +109,7 @@ module _ (m bytes : List ℕ) (lent : Bytes m) (b : Bytes bytes) (m′ : List �
         number d = ap (λ (y : Answer). y .number) d
 
         -- neither 7 nor 6
-        onward-only : (k : ℕ) → x .answer .number ≡ k → (k ≡ 7 → ⊥) → (k ≡ 6 → ⊥) → Within 12 16 m m′ → MeldTouches m (x .answer) m′
+        onward-only : (k : ℕ) → x .answer .number ≡ k → (k ≡ 7 → ⊥) → (k ≡ 6 → ⊥) → Within positionFrom positionTo m m′ → MeldTouches m (x .answer) m′
         onward-only k d n₇ n₆ w = record {
           refusal = λ r. absurd (⊎-elim (λ (y : x .answer ≡ Names.unfitPool). n₇ (sym d ∙ number y)) (λ (y : x .answer ≡ Names.positionsUsedUp). n₆ (sym d ∙ number y)) r);
           abort = λ _. w;
@@ -127,7 +127,7 @@ module _ (m bytes : List ℕ) (lent : Bytes m) (b : Bytes bytes) (m′ : List �
         go noRoom d j = onward-only 3 (number d) (λ e. omega arith) (λ e. omega arith) (position-alone m m′ A i j)
         go malformed d j = onward-only 4 (number d) (λ e. omega arith) (λ e. omega arith) (position-alone m m′ A i j)
         go ahead d j = onward-only 5 (number d) (λ e. omega arith) (λ e. omega arith) (position-alone m m′ A i j)
-        go usedUp d j = let e = one-image m′ m A j i in record { refusal = λ _. e; abort = λ _. within-nothing 12 16 m m′ e; commit = same-size }
+        go usedUp d j = let e = one-image m′ m A j i in record { refusal = λ _. e; abort = λ _. within-nothing positionFrom positionTo m m′ e; commit = same-size }
 
   pub meld-touches : MeldTouches m (x .answer) m′
   meld-touches = go (fit-or-not m lent)

@@ -36,14 +36,21 @@ pub data Chain (N Z : ℕ) (log : List ℕ) : List ℕ → ℕ → List ℕ → 
   further : {original m between result : List ℕ} {q q′ : ℕ} {qs : List ℕ} {a : Answer} → PoolAt N Z log q m → RefreshedTo m original committed between
       → Chain N Z log between q′ qs a result → Chain N Z log original q (q′ ∷ qs) a result
 
--- "melding the result gives the original's answer and state in no more looks": and the same bytes of the pool
-pub record SameMeld (m original result : List ℕ) : Type 0 where
-  pub same : (m₁ m₂ : List ℕ) (x₁ x₂ : Melded) → Melds m original m₁ x₁ → Melds m result m₂ x₂
-      → (x₂ .answer ≡ x₁ .answer) × (m₂ ≡ m₁) × (x₂ .looks ≤ x₁ .looks)
+-- "melding the result gives the original's answer and state in no more looks": and the same bytes of the pool. x and m are what melding
+-- the original answers and leaves, y and k what melding the result does.
+pub record MeldedAlike (x : Melded) (m : List ℕ) (y : Melded) (k : List ℕ) : Type 0 where
+  pub answer : y .answer ≡ x .answer
+  pub pool : k ≡ m
+  pub looks-le : y .looks ≤ x .looks
+
+-- so for any two such calls at one pool
+abbrev pub SameMeld : List ℕ → List ℕ → List ℕ → Type 0
+SameMeld m original result = (m₁ m₂ : List ℕ) (x₁ x₂ : Melded) → Melds m original m₁ x₁ → Melds m result m₂ x₂ → MeldedAlike x₁ m₁ x₂ m₂
 
 -- "the chain equals one refresh at its last stop": which answers 0 too, and gives the same bytes
-pub record SameRefresh (N Z : ℕ) (log original : List ℕ) (q : ℕ) (result : List ℕ) : Type 0 where
-  pub same : (m : List ℕ) (a : Answer) (once : List ℕ) → PoolAt N Z log q m → RefreshedTo m original a once → (a ≡ committed) × (once ≡ result)
+abbrev pub SameRefresh : ℕ → ℕ → List ℕ → List ℕ → ℕ → List ℕ → Type 0
+SameRefresh N Z log original q result =
+    (m : List ℕ) (a : Answer) (once : List ℕ) → PoolAt N Z log q m → RefreshedTo m original a once → (a ≡ committed) × (once ≡ result)
 
 -- the two outcomes of a chain that answers a, where m is the pool at the place of the meld: "Either a refresh says conflict, and so does
 -- melding the original at that place; or the chain equals one refresh at its last stop, and melding the result" is melding the original

@@ -23,10 +23,17 @@ pub record CreateTouches (m : List ℕ) (a : Answer) (m′ : List ℕ) : Type 0 
   pub refusal : a ≡ badLimits → m′ ≡ m
   pub commit : length m′ ≡ length m
 
--- `meld`: nothing on 7 and 6; on 4, 5, 2, 1 and 3 the position, bytes 12 to 15; on 0 the pool
+-- the bytes of a pool that hold its position: 12 to 15
+abbrev pub positionFrom : ℕ
+positionFrom = 12
+
+abbrev pub positionTo : ℕ
+positionTo = 16
+
+-- `meld`: nothing on 7 and 6; on 4, 5, 2, 1 and 3 the position; on 0 the pool
 pub record MeldTouches (m : List ℕ) (a : Answer) (m′ : List ℕ) : Type 0 where
   pub refusal : (a ≡ unfitPool) ⊎ (a ≡ positionsUsedUp) → m′ ≡ m
-  pub abort : (a ≡ committed → ⊥) → Within 12 16 m m′
+  pub abort : (a ≡ committed → ⊥) → Within positionFrom positionTo m m′
   pub commit : length m′ ≡ length m
 
 -- `refresh`: nothing unless 0; then the front of the output, as long as the original
