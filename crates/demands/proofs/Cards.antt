@@ -41,7 +41,7 @@ created-fresh m n z m′ c = go (limitsOk n z (length m)) refl
     go false e = absurd (omega (arith, ap (λ (a : Answer). a .number) (c .refused e .0)))
 
 -- the first of what a function makes of a list
-map-take : {A B : Type 0} (f : A → B) (n : ℕ) (l : List A) → take n (map f l) ≡ map f (take n l)
+pub map-take : {A B : Type 0} (f : A → B) (n : ℕ) (l : List A) → take n (map f l) ≡ map f (take n l)
 map-take f zero l = refl
 map-take f (suc n) [] = refl
 map-take f (suc n) (x ∷ l) = ap (λ (r : List _). f x ∷ r) (map-take f n l)

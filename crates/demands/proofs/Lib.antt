@@ -7,3 +7,4 @@ pub mod Position
 pub mod Touches
 pub mod Fakes
 pub mod Answers
+pub mod Verdicts

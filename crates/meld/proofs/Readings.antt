@@ -17,7 +17,7 @@ use Rattle.record.specs.Record.{Rec, Valid, kindOf, keyOf, payloadOf}
 use Rattle.record.specs.Parse.{parse}
 use Rattle.record.specs.Reader.{Lists, lists, Outcome, outcome, front, roomy, filled, readOf, lowOf, highOf}
 use Rattle.record.proofs.RoundTrip.{bytesOf-parse}
-use Rattle.meld.specs.Melds.{Names}
+use Rattle.meld.specs.Lists.{Names}
 
 -- the front of a list that was filled
 front-take : {A : Type 0} (f : A → ℕ) (xs : List A) (l l′ : List ℕ) (n : ℕ) → l′ ≡ front (map f xs) l → n ≡ length xs → take n l′ ≡ map f xs

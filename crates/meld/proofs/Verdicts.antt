@@ -39,7 +39,8 @@ use Rattle.commit.specs.Commit.{oldAt, commitIn, commitLean, Committable, allKe
 use Rattle.commit.proofs.Storing.{points-in}
 use Rattle.meld.specs.declared.melding.Melded.{Melded}
 use Rattle.meld.specs.After.{committedIn, leftIn, afterIn}
-use Rattle.meld.specs.Melds.{meldedOf, MeldsAs, Names as NamesOf, Meldable, MeldsLists}
+use Rattle.meld.specs.Melds.{meldedOf, MeldsAs}
+use Rattle.meld.specs.Lists.{Names as NamesOf, Meldable, MeldsLists}
 use Rattle.meld.proofs.Judging.{Stops, at-ahead, at-too-old, at-conflict, Decided, Open, decided, TooMany, FitsLean, FitsWhole, too-little, after-drop, enough}
 
 module _ (m : List ℕ) (s : ℕ) (kinds ks xs ls hs : List ℕ) (pre : Meldable m s kinds ks xs ls hs) where

@@ -22,7 +22,8 @@ use Rattle.drop.specs.Drop.{onward, PositionsLeft}
 use Rattle.fit.specs.Whole.{Decides}
 use Rattle.meld.specs.declared.melding.Melded.{Melded}
 use Rattle.meld.specs.After.{afterIn}
-use Rattle.meld.specs.Melds.{MeldsAs, MeldsFit, Refuses, Melds, Names, Meldable, MeldsLists}
+use Rattle.meld.specs.Melds.{MeldsAs, MeldsFit, Refuses, Melds}
+use Rattle.meld.specs.Lists.{Names, Meldable, MeldsLists}
 use Rattle.meld.proofs.Lookups.{now-fit, not-fit}
 
 module _ (m bs : List ℕ) (h : Header) (eh : h ≡ headerAt m) where

@@ -1,3 +1,4 @@
 pub mod Lookups
 pub mod After
 pub mod Melds
+pub mod Lists

@@ -8,7 +8,7 @@ use record::Answer;
 use room::Room;
 use room::room_for;
 ghost use mathlib.Core.Path.{_≡_};
-ghost use Rattle.meld.specs.Melds.{Meldable, MeldsLists};
+ghost use Rattle.meld.specs.Lists.{Meldable, MeldsLists};
 
 // Melds a well-formed record, given as its lists, into a fit pool that has a position left: 5, 2, 1, 3 or 0.
 pub fn meld_lists(
