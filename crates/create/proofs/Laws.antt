@@ -26,8 +26,8 @@ use Rattle.rules.proofs.Trees.{tree-none}
 use Rattle.pool.specs.Plan.{noNode, freeNode}
 use Rattle.pool.specs.Image.{AllBelow, Arranged, HoldsFree, firstOf, layoutMark, headerOf, Image}
 use Rattle.pool.proofs.Apart.{free-distinct}
-use Rattle.create.specs.Fresh.{upFrom, freshPlan, nextFree, limitsOk, Created}
-use Rattle.create.specs.Steps.{Freed, Cleared}
+use Rattle.create.specs.Fresh.{upFrom, freshPlan, limitsOk, Created}
+use Rattle.create.specs.Steps.{nextFree, Freed, Cleared}
 
 -- THE LIMITS
 

@@ -1,6 +1,6 @@
 -- A new pool: "A new pool has p = 0 and no keys; creating it answers 0 and fixes every byte" (document 01, "The state").
 -- Assumes nothing: these are definitions.
-use Prim.Native.Nat.{ℕ, zero, suc, _+_, _-_, _*_}
+use Prim.Native.Nat.{ℕ, zero, suc, _+_, _*_}
 use mathlib.Core.Path.{_≡_}
 use mathlib.Core.Bool.{Bool, true, false, _&&_}
 use mathlib.Core.List.{List, [], _∷_}
@@ -9,8 +9,6 @@ use lib.Dec.{leb, eqb}
 use lib.ListN.{length}
 use Rattle.record.specs.Answer.{committed, badLimits}
 use Rattle.record.specs.declared.answer.Answer.{Answer}
-use Rattle.rules.specs.Lists.{if_then_else_}
-use Rattle.pool.specs.Plan.{noNode}
 use Rattle.pool.specs.Image.{Arrangement, Image}
 
 -- so many numbers, from i on
@@ -21,10 +19,6 @@ upFrom i (suc k) = i ∷ upFrom (suc i) k
 -- no tree, and all nodes free in the order of their numbers
 abbrev pub freshPlan : ℕ → ℕ → Arrangement
 freshPlan n z = record { N = n; Z = z; p = 0; tree = none; free = upFrom 0 (2 * n) }
-
--- what stands behind free node i of so many
-abbrev pub nextFree : ℕ → ℕ → ℕ
-nextFree nodes i = if eqb (i + 1) nodes then noNode else (i + 1)
 
 -- row 9: "N or Z outside its range, or pool not exactly 64 + 64·N bytes"
 unfoldable pub limitsOk : ℕ → ℕ → ℕ → Bool

@@ -1,14 +1,19 @@
 -- What the steps of creation leave behind.
 -- Assumes nothing: these are definitions.
-use Prim.Native.Nat.{ℕ, _-_, _≤_, _<_}
+use Prim.Native.Nat.{ℕ, _+_, _-_, _≤_, _<_}
 use mathlib.Core.Path.{_≡_}
 use mathlib.Core.List.{List}
 use mathlib.Core.Logic.{_⊎_}
+use lib.Dec.{eqb}
 use lib.ListN.{length, getD}
 use Rattle.words.specs.Word.{Bytes}
 use Rattle.nodes.specs.Nodes.{nodeAt}
-use Rattle.pool.specs.Plan.{freeNode}
-use Rattle.create.specs.Fresh.{nextFree}
+use Rattle.pool.specs.Plan.{freeNode, noNode}
+use Rattle.rules.specs.Lists.{if_then_else_}
+
+-- what stands behind free node i of so many
+abbrev pub nextFree : ℕ → ℕ → ℕ
+nextFree nodes i = if eqb (i + 1) nodes then noNode else (i + 1)
 
 -- each node below i is free, with the next and the rank of a new pool of so many nodes
 pub record Freed (nodes i : ℕ) (m m′ : List ℕ) : Type 0 where

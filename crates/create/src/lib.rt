@@ -9,8 +9,8 @@ ghost use Prim.Native.Nat.{_+_, _-_, _*_, _≤_, _<_};
 ghost use lib.ListN.{length};
 ghost use Rattle.words.specs.Word.{Bytes};
 ghost use Rattle.pool.specs.Plan.{freeNode};
-ghost use Rattle.create.specs.Fresh.{nextFree, limitsOk, Created};
-ghost use Rattle.create.specs.Steps.{Freed, Cleared};
+ghost use Rattle.create.specs.Fresh.{limitsOk, Created};
+ghost use Rattle.create.specs.Steps.{nextFree, Freed, Cleared};
 
 // Whether the limits are in their ranges and a pool for them has this size.
 fn limits_hold(n: u32, z: u32, size: usize) -> bool

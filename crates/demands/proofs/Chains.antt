@@ -23,8 +23,9 @@ use Rattle.rules.specs.Verdict.{Verdict, conflict, answerOf, verdict}
 use Rattle.rules.specs.Log.{stateAt}
 use Rattle.rules.specs.Refresh.{Refreshed, done, refresh, onward, chain}
 use Rattle.rules.specs.Refresh as Rules
-use Rattle.rules.specs.Demands.{InOrder, lastOf, MeldsAs, Outcome}
-use Rattle.rules.specs.Demands as Ends
+use Rattle.rules.specs.Demands.{InOrder, lastOf}
+use Rattle.rules.specs.Outcome.{MeldsAs, Outcome}
+use Rattle.rules.specs.Outcome as Ends
 use Rattle.rules.proofs.Refreshing.{refresh-exactly}
 use Rattle.rules.proofs.Chain.{demand-three}
 use Rattle.pool.specs.Image.{Arrangement, Image, stateOf}

@@ -18,7 +18,7 @@ use Rattle.record.proofs.RoundTrip.{valid-size}
 use Rattle.log.specs.declared.found.Cut.{Cut}
 use Rattle.log.specs.declared.found.Cut.the-variants.{Record}
 use Rattle.log.specs.Log.{cutAt, partOf}
-use Rattle.log.specs.Walk.{Sized}
+use Rattle.log.specs.Sized.{Sized}
 use Rattle.log.proofs.Same.{cut-here}
 use Rattle.rules.specs.State.{State, lastPosition}
 use Rattle.rules.specs.Verdict.{Verdict, answerOf}

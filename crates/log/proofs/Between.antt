@@ -7,7 +7,8 @@ use mathlib.Core.List.{List, [], _∷_, _++_, append-assoc}
 use lib.ListN.{length, take}
 use lib.Seq.{take-append-seam, take-length}
 use Rattle.log.specs.declared.found.Cut.the-variants.{End}
-use Rattle.log.specs.Walk.{Walks, ends, joined, AllSized, no-part, one-more, CutLog}
+use Rattle.log.specs.Walk.{Walks, ends, joined, CutLog}
+use Rattle.log.specs.Sized.{AllSized, no-part, one-more}
 use Rattle.log.proofs.Stands.{end-found}
 use Rattle.log.proofs.Walk.{walks-once, walks-sized, walks-joined, joined-walks}
 

@@ -10,7 +10,7 @@ use lib.Seq.{getD-take, getD-append-add, getD-drop, take-add, drop-at, length-ta
 use Rattle.words.specs.Laws.{word-same, word-drop}
 use Rattle.log.specs.declared.found.Cut.the-variants.{Record}
 use Rattle.log.specs.Log.{cutAt, lengthAt, partOf}
-use Rattle.log.specs.Walk.{Sized}
+use Rattle.log.specs.Sized.{Sized}
 use Rattle.log.proofs.Stands.{RecordAt, record-tells, record-found}
 
 -- two logs have the same bytes from a place to another

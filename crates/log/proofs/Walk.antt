@@ -11,7 +11,8 @@ use Rattle.words.specs.Laws.{word-same}
 use Rattle.log.specs.declared.found.Cut.{Cut}
 use Rattle.log.specs.declared.found.Cut.the-variants.{End, Broken, Record}
 use Rattle.log.specs.Log.{cutAt, lengthAt, partOf}
-use Rattle.log.specs.Walk.{Walks, ends, breaks, hands, joined, Sized, AllSized, no-part, one-more}
+use Rattle.log.specs.Walk.{Walks, ends, breaks, hands, joined}
+use Rattle.log.specs.Sized.{Sized, AllSized, no-part, one-more}
 use Rattle.log.proofs.Stands.{RecordAt, record-tells, end-tells, end-found, end-not-record, broken-not-record, broken-not-end, same-next}
 use Rattle.log.proofs.Same.{cut-here}
 

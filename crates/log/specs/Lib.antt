@@ -1,2 +1,3 @@
 pub mod Log
 pub mod Walk
+pub mod Sized

@@ -6,7 +6,7 @@ use mathlib.Core.List.{List, [], _∷_, _++_}
 use lib.ListN.{length, take}
 use Rattle.log.specs.declared.found.Cut.{Cut}
 use Rattle.log.specs.declared.found.Cut.the-variants.{End, Broken, Record}
-use Rattle.log.specs.Log.{cutAt, partOf, lengthAt, minLength, maxLength}
+use Rattle.log.specs.Log.{cutAt, partOf}
 
 -- the walk over a log from a place on: the parts handed out, in order, and how it ends, with "end" or broken
 pub data Walks (log : List ℕ) : ℕ → List (List ℕ) → Cut → Type 0 where
@@ -19,17 +19,6 @@ pub data Walks (log : List ℕ) : ℕ → List (List ℕ) → Cut → Type 0 whe
 abbrev pub joined : List (List ℕ) → List ℕ
 joined [] = []
 joined (part ∷ parts) = part ++ joined parts
-
--- a part as the log rule hands it out: as many bytes as its length says and the two of the length itself, the length from 7 to 903
-pub record Sized (part : List ℕ) : Type 0 where
-  pub size : length part ≡ lengthAt part 0 + 2
-  pub least : minLength ≤ lengthAt part 0
-  pub most : lengthAt part 0 ≤ maxLength
-
--- each of the parts is so
-pub data AllSized : List (List ℕ) → Type 0 where
-  no-part : AllSized []
-  one-more : {part : List ℕ} {parts : List (List ℕ)} → Sized part → AllSized parts → AllSized (part ∷ parts)
 
 -- "Cut a log that walks to "end" at any byte": the log's first n bytes, where the whole log hands out `parts`
 pub record CutLog (log : List ℕ) (parts : List (List ℕ)) (n : ℕ) : Type 0 where

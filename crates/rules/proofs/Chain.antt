@@ -19,7 +19,8 @@ use Rattle.rules.specs.Verdict.{Verdict, committed, conflict, tooOld, no
 use Rattle.rules.specs.Log.{Log, stateAt}
 use Rattle.rules.specs.Tree.{walkOf, looksFor, looksOf}
 use Rattle.rules.specs.Refresh.{at, Refreshed, done, refused, refresh, onward, chain}
-use Rattle.rules.specs.Demands.{InOrder, lastOf, MeldsAs, Outcome, stopped, carried}
+use Rattle.rules.specs.Demands.{InOrder, lastOf}
+use Rattle.rules.specs.Outcome.{MeldsAs, Outcome, stopped, carried}
 use Rattle.rules.proofs.Tests.{is-true, is-false, test, le-or-lt}
 use Rattle.rules.proofs.Near.{refresh-near, verdict-near, verdict-last, room-at}
 use Rattle.rules.proofs.Places.{place-p, place-Z, stays, same-conflicts, walks}

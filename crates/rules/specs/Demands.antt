@@ -10,11 +10,9 @@ use Rattle.record.specs.Record.{Rec, keyOf}
 use Rattle.record.specs.declared.point.Point.{Point}
 use Rattle.record.specs.declared.point.Scan.{Scan}
 use Rattle.rules.specs.Lists.{if_then_else_}
-use Rattle.rules.specs.State.{Entry, State, fresh, lastPosition}
-use Rattle.rules.specs.Verdict.{conflict, count, verdict, next}
+use Rattle.rules.specs.State.{Entry, fresh, lastPosition}
+use Rattle.rules.specs.Verdict.{count}
 use Rattle.rules.specs.Log.{Log, after, commits}
-use Rattle.rules.specs.Tree.{looksOf}
-use Rattle.rules.specs.Refresh.{Refreshed, done, refused, refresh}
 
 -- DEMAND 2
 
@@ -52,15 +50,3 @@ InOrder s (q ∷ qs) p = (s ≤ q) × InOrder q qs p
 abbrev pub lastOf : ℕ → List ℕ → ℕ
 lastOf q [] = q
 lastOf q (q′ ∷ qs) = lastOf q′ qs
-
--- "melding the result gives the original's answer and state in no more looks"
-pub record MeldsAs (S : State) (r′ r : Rec) : Type 0 where
-  pub answer : verdict S (some r′) ≡ verdict S (some r)
-  pub state : next S (some r′) ≡ next S (some r)
-  pub looks-le : looksOf S (some r′) ≤ looksOf S (some r)
-
--- the two outcomes of a chain c of refreshes of r, the last at L, where r would be melded at S: "Either a refresh says conflict, and so
--- does melding the original at that place; or the chain equals one refresh at its last stop, and melding the result" is melding r
-pub data Outcome (S L : State) (r : Rec) (c : Refreshed) : Type 0 where
-  stopped : c ≡ refused conflict → verdict S (some r) ≡ conflict → Outcome S L r c
-  carried : (r′ : Rec) → c ≡ done r′ → refresh L (some r) ≡ done r′ → MeldsAs S r′ r → Outcome S L r c

@@ -7,4 +7,5 @@ pub mod Tree
 pub mod Lookup
 pub mod Refresh
 pub mod Demands
+pub mod Outcome
 pub mod Table
