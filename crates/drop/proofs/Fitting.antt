@@ -7,7 +7,8 @@ use mathlib.Core.List.{List, _++_}
 use mathlib.Core.Option.{Option, some}
 use lib.ListN.{length}
 use Rattle.rules.specs.Tree.{Tree, treeOf, entries}
-use Rattle.rules.proofs.Trees.{Canonical, none as nothing, one, two, on-left, on-right, treeOf-canonical}
+use Rattle.rules.specs.Shape.{Canonical, none as nothing, one, two, on-left, on-right}
+use Rattle.rules.proofs.Trees.{treeOf-canonical}
 use Rattle.pool.specs.Plan.{Plan, node, number, numbers}
 use Rattle.pool.specs.Image.{Arrangement, Arranged, Image, AllBelow, Distinct, HoldsTree, treeOr, numbersOr}
 use Rattle.pool.proofs.Numbers.{times, times-append, below-times, times-below}

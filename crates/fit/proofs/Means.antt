@@ -20,7 +20,8 @@ use Rattle.rules.specs.State.{Entry, Rising}
 use Rattle.rules.specs.Tree.{Tree, treeOf, entries, newest}
 use Rattle.rules.proofs.Tests.{le-or-lt}
 use Rattle.rules.proofs.Newest.{newest-max, newest-leaf}
-use Rattle.rules.proofs.Trees.{Canonical, treeOf-canonical, canonical-rising, treeOf-entries, tree-none}
+use Rattle.rules.specs.Shape.{Canonical}
+use Rattle.rules.proofs.Trees.{treeOf-canonical, canonical-rising, treeOf-entries, tree-none}
 use Rattle.pool.specs.Plan.{Plan, treeIn, number, numbers, noNode}
 use Rattle.pool.specs.Image.{Arrangement, treeOr, rootOr, numbersOr, stateOf, AllBelow, Holds, HoldsTree, Image, Fit}
 use Rattle.pool.proofs.Placed.{placed-canonical, canonical-placed}

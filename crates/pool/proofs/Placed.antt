@@ -9,7 +9,7 @@ use native.Mathlib.Nat.{le-refl, le-trans, mul-le-mul-right, div-add-mod', pow-s
 use lib.Dec.{T}
 use Rattle.rules.specs.State.{Entry}
 use Rattle.rules.specs.Tree.{Tree, empty}
-use Rattle.rules.proofs.Trees.{full, Canonical, none, one, two, on-left, on-right}
+use Rattle.rules.specs.Shape.{full, Canonical, none, one, two, on-left, on-right}
 use Rattle.pool.specs.Plan.{Plan, leaf, node, treeIn}
 
 -- T holds keys of from .. to − 1

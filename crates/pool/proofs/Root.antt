@@ -9,7 +9,8 @@ use lib.ListN.{length, length-append}
 use Rattle.nodes.specs.declared.header.Header.{Header}
 use Rattle.nodes.specs.Nodes.{headerAt}
 use Rattle.rules.specs.Tree.{Tree}
-use Rattle.rules.proofs.Trees.{Canonical, treeOf-canonical}
+use Rattle.rules.specs.Shape.{Canonical}
+use Rattle.rules.proofs.Trees.{treeOf-canonical}
 use Rattle.pool.specs.Plan.{Plan, number, numbers, noNode}
 use Rattle.pool.specs.Image.{Arrangement, Arranged, AllBelow, HoldsTree, Image, Fit, treeOr, rootOr, numbersOr}
 use Rattle.pool.specs.Subtree.{Stands, Rooted}

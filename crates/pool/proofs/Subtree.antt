@@ -12,8 +12,8 @@ use Rattle.nodes.specs.Nodes.{nodeAt}
 use Rattle.rules.specs.State.{Entry}
 use Rattle.rules.specs.Tree.{Tree, newest}
 use Rattle.rules.specs.Tree as rules
-use Rattle.rules.proofs.Trees.{Canonical, two, on-left, on-right}
-use Rattle.rules.proofs.Trees as trees
+use Rattle.rules.specs.Shape.{Canonical, two, on-left, on-right}
+use Rattle.rules.specs.Shape as trees
 use Rattle.pool.specs.Plan.{Plan, leaf, node, treeIn, numbers, leafNode, rootNode}
 use Rattle.pool.specs.Image.{AllBelow}
 use Rattle.pool.proofs.Frame.{root-holds}

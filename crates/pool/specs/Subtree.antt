@@ -5,7 +5,7 @@ use mathlib.Core.Path.{_≡_}
 use mathlib.Core.List.{List}
 use lib.ListN.{length}
 use Rattle.nodes.specs.Nodes.{nodeAt}
-use Rattle.rules.proofs.Trees.{Canonical}
+use Rattle.rules.specs.Shape.{Canonical}
 use Rattle.pool.specs.Plan.{Plan, treeIn, number, numbers}
 use Rattle.pool.specs.Image.{AllBelow, Holds}
 

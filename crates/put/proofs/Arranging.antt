@@ -13,8 +13,9 @@ use Rattle.rules.specs.Lists.{if_then_else_}
 use Rattle.rules.specs.State.{Entry, Lawful, Fits}
 use Rattle.rules.specs.Verdict.{store}
 use Rattle.rules.specs.Tree.{entries}
-use Rattle.rules.proofs.Trees.{Canonical, treeOf-canonical, treeOf-entries}
-use Rattle.rules.proofs.Trees as Trees
+use Rattle.rules.specs.Shape.{Canonical}
+use Rattle.rules.proofs.Trees.{treeOf-canonical, treeOf-entries}
+use Rattle.rules.specs.Shape as Shape
 use Rattle.rules.proofs.Sorted.{store-rising}
 use Rattle.rules.proofs.Stored.{store-mem}
 use Rattle.rules.proofs.Insert.{Stored, insert-stored}
@@ -37,7 +38,7 @@ module _ (e : Entry) (key-fits : e .key < 2 ^ 32) where
   -- the same of a tree or none
   pub stored-after : (free : List ℕ) (o : Option Plan) → Canonical 32 0 (treeOr o) → Stored 32 0 e (treeOr o) (treeIn (treeAfter e free o))
   unfolding entries store
-  stored-after free none g = record { fits = Trees.one {h = 32} {low = 0} {e = e} (omega arith) key-fits; holds = refl }
+  stored-after free none g = record { fits = Shape.one {h = 32} {low = 0} {e = e} (omega arith) key-fits; holds = refl }
   stored-after free (some T) g = stored-put (firstOf free) (firstOf (restOf free)) T g
 
 -- an arrangement's tree is of the shape

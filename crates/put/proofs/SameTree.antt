@@ -11,7 +11,7 @@ use Rattle.nodes.specs.Nodes.{nodeAt}
 use Rattle.rules.specs.State.{Entry}
 use Rattle.rules.specs.Tree as Trees
 use Rattle.rules.specs.Tree.{entries}
-use Rattle.rules.proofs.Trees.{Canonical}
+use Rattle.rules.specs.Shape.{Canonical}
 use Rattle.pool.specs.Plan.{Plan, leaf, node, treeIn, number, numbers, leafNode}
 use Rattle.pool.specs.Image.{Arrangement, Image, headerOf, Holds, HoldsTree, AllBelow, treeOr, rootOr, numbersOr, stateOf}
 use Rattle.put.specs.Places.{Falls}

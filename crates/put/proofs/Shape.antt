@@ -17,7 +17,7 @@ use Rattle.rules.specs.State.{Entry}
 use Rattle.rules.specs.Tree as Trees
 use Rattle.rules.specs.Tree.{Tree, empty}
 use Rattle.rules.proofs.Tests.{yes-lt, no-lt, le-or-lt, is-true, same, and-of, left-of, right-of, yes-eq}
-use Rattle.rules.proofs.Trees.{Canonical, none, one, two, on-left, on-right}
+use Rattle.rules.specs.Shape.{Canonical, none, one, two, on-left, on-right}
 use Rattle.rules.proofs.Insert.{fork, insert}
 use Rattle.pool.specs.Plan.{Plan, leaf, node, treeIn}
 use Rattle.put.specs.Storing.{covered, lowOf, beside, putPlan}

@@ -12,7 +12,8 @@ use lib.Pow.{pow-pos}
 use Rattle.rules.specs.State.{Entry, Rising}
 use Rattle.rules.specs.Tree.{Tree, empty, leaf, node, entries, treeOf}
 use Rattle.rules.proofs.Sorted.{rising-mem}
-use Rattle.rules.proofs.Trees.{Canonical, none, one, two, on-left, on-right, full, canonical-rising, treeOf-canonical}
+use Rattle.rules.specs.Shape.{Canonical, none, one, two, on-left, on-right, full}
+use Rattle.rules.proofs.Trees.{canonical-rising, treeOf-canonical}
 
 -- a node splits at a bit: both sides hold keys, all of them with the same leading bits above it, 0 there on the left and 1 on the right
 pub record Splits (h low : ℕ) (l r : Tree) : Type 0 where

@@ -20,7 +20,8 @@ use Rattle.rules.specs.Tree.{Tree, node, newest, Walked, stop, descend, 
 use Rattle.rules.proofs.Tests.{if-ind, is-true, is-false, le-or-lt, left-of, right-of, nor-left, nor-right}
 use Rattle.rules.proofs.Reach.{hits-of}
 use Rattle.rules.proofs.Sorted.{rising-mem}
-use Rattle.rules.proofs.Trees.{Canonical, none, one, two, on-left, on-right, canonical-rising, double, treeOf-canonical}
+use Rattle.rules.specs.Shape.{Canonical, none, one, two, on-left, on-right}
+use Rattle.rules.proofs.Trees.{canonical-rising, double, treeOf-canonical}
 use Rattle.rules.proofs.Newest.{newest-leaf}
 use Rattle.rules.proofs.Search.{walk-complete}
 use Rattle.rules.proofs.Marks.{marks, marks-cut, marks-all, Marked, covers, ends, ends-length, ends-marked, apart-ordered}

@@ -15,7 +15,8 @@ use Rattle.rules.specs.Tree.{Tree, empty, leaf, node, entries, first, pa
 use Rattle.rules.proofs.Tests.{if-ind, is-true, is-false, test, le-or-lt, and-of, left-of, right-of, yes-lt, no-lt, yes-eq, no-eq}
 use Rattle.rules.proofs.Stored.{store-self}
 use Rattle.rules.proofs.Sorted.{store-rising, store-first, store-left, store-right, store-last}
-use Rattle.rules.proofs.Trees.{Canonical, none, one, two, on-left, on-right, full, canonical-cover, canonical-rising, treeOf-canonical, entries-treeOf, treeOf-entries}
+use Rattle.rules.specs.Shape.{Canonical, none, one, two, on-left, on-right, full}
+use Rattle.rules.proofs.Trees.{canonical-cover, canonical-rising, treeOf-canonical, entries-treeOf, treeOf-entries}
 
 -- the node over an entry and a tree that lie in low .. low + 2 ^ h − 1, where they first differ; k is a number that the tree covers
 unfoldable pub fork : ℕ → ℕ → Entry → ℕ → Tree → Tree

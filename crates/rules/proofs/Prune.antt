@@ -12,7 +12,8 @@ use Rattle.rules.specs.State.{Entry, Rising, isLive}
 use Rattle.rules.specs.Verdict.{young}
 use Rattle.rules.specs.Tree.{Tree, empty, leaf, node, entries, join, treeOf, oldest}
 use Rattle.rules.proofs.Tests.{if-ind, is-true, is-false, test, or-left, or-right, keep-append}
-use Rattle.rules.proofs.Trees.{Canonical, none, one, two, on-left, on-right, join-full, entries-join, join-canonical, treeOf-canonical, entries-treeOf, treeOf-entries}
+use Rattle.rules.specs.Shape.{Canonical, none, one, two, on-left, on-right}
+use Rattle.rules.proofs.Trees.{join-full, entries-join, join-canonical, treeOf-canonical, entries-treeOf, treeOf-entries}
 
 -- what is left of a tree once the entries that fail the test are gone
 unfoldable pub prune : (Entry → Bool) → Tree → Tree

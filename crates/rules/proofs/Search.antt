@@ -19,7 +19,8 @@ use Rattle.rules.proofs.Tests.{if-ind, is-true, and-of, or-left, or-rig
 use Rattle.rules.proofs.Reach.{meets-wider, of-hits}
 use Rattle.rules.proofs.Sorted.{rising-mem}
 use Rattle.rules.proofs.Newest.{newest-max}
-use Rattle.rules.proofs.Trees.{Canonical, none, one, two, on-left, on-right, canonical-rising, entries-treeOf, treeOf-canonical}
+use Rattle.rules.specs.Shape.{Canonical, none, one, two, on-left, on-right}
+use Rattle.rules.proofs.Trees.{canonical-rising, entries-treeOf, treeOf-canonical}
 
 -- the test at a leaf is row 1's of its entry
 pub leaf-hits : (s : ℕ) (f : List Scan) (e : Entry) → goesOn s f (leaf e) ≡ hits s f e

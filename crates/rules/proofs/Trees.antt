@@ -1,24 +1,20 @@
 -- The tree of the entries: its leaves are the entries, its nodes stand where keys first differ, and it is the one such tree.
 -- Assumes nothing.
-use Prim.Native.Nat.{ℕ, zero, suc, _+_, _^_, _≤_, _<_}
+use Prim.Native.Nat.{ℕ, zero, suc, _+_, _^_, _≤_}
 use native.Mathlib.Omega.{arith}
 use native.Mathlib.Nat.{le-refl}
 use mathlib.Core.Path.{_≡_, refl, sym, ap, ap₂, _∙_}
 use mathlib.Core.Logic.{⊎-elim}
-use mathlib.Core.Bool.{Bool, not}
 use mathlib.Core.List.{List, [], _∷_, _++_, append-nil}
 use lib.Dec.{T, ltb→lt, nltb→le}
 use Rattle.rules.specs.Lists.{keep}
 use Rattle.rules.specs.State.{Entry, Rising, end, link}
-use Rattle.rules.specs.Tree.{Tree, empty, leaf, node, isEmpty, entries, join, below, from, first, past, treeOf}
+use Rattle.rules.specs.Tree.{Tree, empty, leaf, node, entries, join, below, from, first, past, treeOf}
+use Rattle.rules.specs.Shape.{full, Canonical, none, one, two, on-left, on-right}
 use Rattle.rules.proofs.Tests.{test, keep-append}
 use Rattle.rules.proofs.Sorted.{rising-range, rising-lower, none-below, all-below, none-from, all-from, cut, is-below, not-below, is-from, not-from, rising-upper, rising-append, below-rising, from-rising}
 
 -- JOINING TWO SIDES
-
--- a tree that holds something
-abbrev pub full : Tree → Bool
-full t = not (isEmpty t)
 
 -- the leaves of a join are those of both sides
 pub entries-join : (h low : ℕ) (l r : Tree) → entries (join h low l r) ≡ entries l ++ entries r
@@ -102,14 +98,6 @@ entries-treeOf (suc h) low {es} r =
     ∙ cut (low + 2 ^ h) r
 
 -- TREES OF THE SHAPE
-
--- t holds keys of low .. low + 2 ^ h − 1, and its nodes stand where keys first differ
-pub data Canonical : ℕ → ℕ → Tree → Type 0 where
-  none : {h low : ℕ} → Canonical h low empty
-  one : {h low : ℕ} {e : Entry} → low ≤ e .key → e .key < low + 2 ^ h → Canonical h low (leaf e)
-  two : {h low : ℕ} {l r : Tree} → T (full l) → T (full r) → Canonical h low l → Canonical h (low + 2 ^ h) r → Canonical (suc h) low (node (suc h) low l r)
-  on-left : {h low : ℕ} {t : Tree} → Canonical h low t → Canonical (suc h) low t
-  on-right : {h low : ℕ} {t : Tree} → Canonical h (low + 2 ^ h) t → Canonical (suc h) low t
 
 -- two sides of the shape, joined
 pub join-canonical : (h low : ℕ) (l r : Tree) → Canonical h low l → Canonical h (low + 2 ^ h) r → Canonical (suc h) low (join (suc h) low l r)

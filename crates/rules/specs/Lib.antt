@@ -4,6 +4,7 @@ pub mod Footprint
 pub mod Verdict
 pub mod Log
 pub mod Tree
+pub mod Shape
 pub mod Lookup
 pub mod Refresh
 pub mod Demands
