@@ -1,0 +1,64 @@
+-- The library's answers and results, put together from the plain numbers that C is given.
+-- Assumes nothing: these are definitions.
+use Prim.Native.Nat.{ℕ}
+use mathlib.Core.Option.{Option, none, some}
+use Rattle.record.specs.declared.answer.Answer.{Answer}
+use Rattle.record.specs.declared.reader.Reading.{Reading}
+use Rattle.writer.specs.declared.Written.{Written}
+use Rattle.log.specs.declared.found.Cut.{Cut}
+use Rattle.log.specs.Log.{answerOf, placeAfter}
+use Rattle.meld.specs.declared.kept.Lookup.{Lookup}
+use Rattle.meld.specs.declared.kept.Lookup.the-variants.{Unfit, Absent, Found}
+use Rattle.meld.specs.declared.melding.Melded.{Melded}
+use Rattle.meld.specs.Lookups.{numberOf}
+use Rattle.abi.specs.declared.numbers.LookupNumbers.{LookupNumbers}
+use Rattle.abi.specs.declared.numbers.CutNumbers.{CutNumbers}
+
+-- the answer with a number
+abbrev pub answer : ℕ → Answer
+answer n = record { number = n }
+
+-- what meld gives back, from the number and the looks
+abbrev pub melded : ℕ → ℕ → Melded
+melded n looks = record { answer = answer n; looks = looks }
+
+-- what the reader gives back, from the number, the snapshot and both counts
+abbrev pub reading : ℕ → ℕ → ℕ → ℕ → Reading
+reading n s points scans = record { answer = answer n; snapshot = s; points = points; scans = scans }
+
+-- what the writer gives back, from the number and the size
+abbrev pub written : ℕ → ℕ → Written
+written n size = record { answer = answer n; size = size }
+
+-- the three numbers of a lookup
+abbrev pub lookedUp : ℕ → ℕ → ℕ → LookupNumbers
+lookedUp n x w = record { number = n; payload = x; position = w }
+
+-- the two numbers of a cut
+abbrev pub found : ℕ → ℕ → CutNumbers
+found n next = record { number = n; next = next }
+
+-- the number of an enum's case: the paper's, or 0 where the paper gives the case none
+abbrev pub numberIn : Option Answer → ℕ
+numberIn none = 0
+numberIn (some a) = a .number
+
+-- the payload found, else 0
+abbrev pub payloadIn : Lookup → ℕ
+payloadIn Unfit = 0
+payloadIn Absent = 0
+payloadIn (Found x w) = x
+
+-- the position found, else 0
+abbrev pub positionIn : Lookup → ℕ
+positionIn Unfit = 0
+positionIn Absent = 0
+positionIn (Found x w) = w
+
+-- a lookup's answer as numbers: 7, 0 and 0 for an unfit pool; 0, 0 and 0 for an absent key; 0, the payload and the position for one that is found
+abbrev pub ofLookup : Lookup → LookupNumbers
+ofLookup l = lookedUp (numberIn (numberOf l)) (payloadIn l) (positionIn l)
+
+-- what stands at a place as numbers: 10 and the place for a broken log; 0 and the place at the end; 0 and the place past a record
+abbrev pub ofCut : Cut → ℕ → CutNumbers
+ofCut c place = found (numberIn (answerOf c)) (placeAfter c place)

@@ -1,0 +1,31 @@
+-- What the exported functions promise whose answers are no plain numbers in the library: a lookup, and the record in force.
+-- Assumes nothing: these are definitions.
+use Prim.Native.Nat.{ℕ}
+use mathlib.Core.Path.{_≡_}
+use mathlib.Core.Bool.{Bool, true, false}
+use mathlib.Core.List.{List}
+use lib.ListN.{length}
+use Rattle.rules.specs.Lookup.{lookup}
+use Rattle.pool.specs.Image.{Arrangement, Image, Fit, stateOf}
+use Rattle.force.specs.Force.{Source, original, refreshed, nothing, sourceOf, bytesFrom}
+use Rattle.meld.specs.declared.kept.Lookup.the-variants.{Unfit}
+use Rattle.meld.specs.Lookups.{lookupOf}
+use Rattle.abi.specs.declared.numbers.LookupNumbers.{LookupNumbers}
+use Rattle.abi.specs.Numbers.{answer, ofLookup}
+
+-- for the state that the pool means, what the rules' lookup sees, as numbers; 7 where it means none
+pub record LooksUpAs (m : List ℕ) (k : ℕ) (t : LookupNumbers) : Type 0 where
+  pub fit : (A : Arrangement) → Image m A → t ≡ ofLookup (lookupOf (lookup k (stateOf A)))
+  pub unfit : (Fit m → ⊥) → t ≡ ofLookup Unfit
+
+-- whether the part lies in the refreshed buffer: the original and the empty part lie in the original
+abbrev pub inRefreshed : Source → Bool
+inRefreshed original = false
+inRefreshed refreshed = true
+inRefreshed nothing = false
+
+-- the record in force after answer n, with original o and refreshed buffer b: in which of the two it lies, where it starts there, and how long it is
+pub record InForceAs (n : ℕ) (o b : List ℕ) (r : Bool) (offset size : ℕ) : Type 0 where
+  pub slice : r ≡ inRefreshed (sourceOf (answer n) b)
+  pub start : offset ≡ 0
+  pub bytes : size ≡ length (bytesFrom (sourceOf (answer n) b) o b)

@@ -1,0 +1,157 @@
+// FOR C AND RUST: the public functions over plain numbers and slices, each under its own name in the archive. Whatever is lent, the number
+// that is answered and every number and byte left behind are fixed.
+mod numbers;
+
+use log::cut;
+use meld::create;
+use meld::in_force;
+use meld::lookup;
+use meld::meld;
+use meld::refresh;
+use numbers::of_cut;
+use numbers::of_lookup;
+use record::Answer;
+use record::check;
+use record::read;
+use writer::write;
+ghost use mathlib.Core.Path.{_≡_};
+ghost use Rattle.record.specs.Parse.{parse, checkOf};
+ghost use Rattle.record.specs.Reader as Reader;
+ghost use Rattle.writer.specs.Writer as Writer;
+ghost use Rattle.log.specs.Log.{cutAt};
+ghost use Rattle.create.specs.Fresh.{Created};
+ghost use Rattle.refresh.specs.Refreshed.{RefreshIs};
+ghost use Rattle.meld.specs.Melds.{Melds};
+ghost use Rattle.abi.specs.Numbers.{answer, melded, reading, written, lookedUp, found, ofCut};
+ghost use Rattle.abi.specs.Told.{LooksUpAs, InForceAs};
+
+// Creates a pool with limits n and z in the bytes lent: 0, or 9 and no byte changes.
+#[no_mangle]
+pub extern "C" fn emuparasol_create(pool: &mut [u8], n: u32, z: u32) -> u8
+    ensures { λ r. ⌜ Created (now (pool .entry)) n z (answer r) (now (pool .exit)) ⌝ }
+{
+    create(pool, n, z).number
+}
+
+// What is kept under a key: 7 for an unfit pool, else 0; payload and position of the last committed write, both 0 where there is none.
+#[no_mangle]
+pub extern "C" fn emuparasol_lookup(
+    pool: &[u8],
+    key: u32,
+    payload: &mut u64,
+    position: &mut u32,
+) -> u8
+    ensures { λ r. ⌜ LooksUpAs (now (pool .entry)) key (lookedUp r (now (payload .exit)) (now (position .exit))) ⌝ }
+{
+    let told = of_lookup(lookup(pool, key));
+    *payload = told.payload;
+    *position = told.position;
+    told.number
+}
+
+// Melds a record into a pool: 7, 6, 4, 5, 2, 1, 3 or 0, and the looks.
+#[no_mangle]
+pub extern "C" fn emuparasol_meld(pool: &mut [u8], bytes: &[u8], looks: &mut u32) -> u8
+    ensures { λ r. ⌜ Melds (now (pool .entry)) (now (bytes .entry)) (now (pool .exit)) (melded r (now (looks .exit))) ⌝ }
+{
+    let done = meld(pool, bytes);
+    *looks = done.looks;
+    let answer = done.answer;
+    answer.number
+}
+
+// Puts the record with the pool's position as snapshot at the front of the output: 7, 4, 5, 2, 1, 8 or 0.
+#[no_mangle]
+pub extern "C" fn emuparasol_refresh(pool: &[u8], original: &[u8], output: &mut [u8]) -> u8
+    ensures { λ r. ⌜ RefreshIs (now (pool .entry)) (now (original .entry)) (now (output .entry)) (answer r) (now (output .exit)) ⌝ }
+{
+    refresh(pool, original, output).number
+}
+
+// Where the record in force lies after a refresh's answer: true in `refreshed`, false in `original`, from the offset on and so long.
+#[no_mangle]
+pub extern "C" fn emuparasol_in_force<'a>(
+    answer: u8,
+    original: &'a [u8],
+    refreshed: &'a [u8],
+    offset: &mut usize,
+    length: &mut usize,
+) -> bool
+    ensures { λ r. ⌜ InForceAs answer (now (original .entry)) (now (refreshed .entry)) r (now (offset .exit)) (now (length .exit)) ⌝ }
+{
+    let part = in_force(Answer { number: answer }, original, refreshed);
+    let size = part.len();
+    *offset = 0;
+    *length = size;
+    if answer != Answer::COMMITTED.number {
+        return false;
+    }
+    0 < size
+}
+
+// 0 where the bytes are exactly one well-formed record, else 4.
+#[no_mangle]
+pub extern "C" fn emuparasol_check(bytes: &[u8]) -> u8
+    ensures { λ r. ⌜ answer r ≡ checkOf (parse (now (bytes .entry))) ⌝ }
+{
+    check(bytes).number
+}
+
+// Reads the record that the bytes are into the fronts of the lists: 4, 8 or 0, with the snapshot and both counts, all three 0 on a refusal.
+#[no_mangle]
+pub extern "C" fn emuparasol_read(
+    bytes: &[u8],
+    kinds: &mut [u8],
+    keys: &mut [u32],
+    payloads: &mut [u64],
+    lows: &mut [u32],
+    highs: &mut [u32],
+    snapshot: &mut u32,
+    points: &mut usize,
+    scans: &mut usize,
+) -> u8
+    ensures { λ r. ⌜ Reader.outcome (reading r (now (snapshot .exit)) (now (points .exit)) (now (scans .exit)))
+        (Reader.lists (now (kinds .exit)) (now (keys .exit)) (now (payloads .exit)) (now (lows .exit)) (now (highs .exit)))
+        ≡ Reader.readOf (parse (now (bytes .entry)))
+        (Reader.lists (now (kinds .entry)) (now (keys .entry)) (now (payloads .entry)) (now (lows .entry)) (now (highs .entry))) ⌝ }
+{
+    let done = read(bytes, kinds, keys, payloads, lows, highs);
+    *snapshot = done.snapshot;
+    *points = done.points;
+    *scans = done.scans;
+    let answer = done.answer;
+    answer.number
+}
+
+// Writes the record that the lists name to the front of the output: 4, 8 or 0, with its size, 0 on a refusal.
+#[no_mangle]
+pub extern "C" fn emuparasol_write(
+    snapshot: u32,
+    kinds: &[u8],
+    keys: &[u32],
+    payloads: &[u64],
+    lows: &[u32],
+    highs: &[u32],
+    output: &mut [u8],
+    size: &mut usize,
+) -> u8
+    ensures { λ r. ⌜ Writer.outcome (written r (now (size .exit))) (now (output .exit))
+        ≡ Writer.writeOf (Writer.recordOf snapshot
+        (Reader.lists (now (kinds .entry)) (now (keys .entry)) (now (payloads .entry)) (now (lows .entry)) (now (highs .entry))))
+        (now (output .entry)) ⌝ }
+{
+    let done = write(snapshot, kinds, keys, payloads, lows, highs, output);
+    *size = done.size;
+    let answer = done.answer;
+    answer.number
+}
+
+// What stands at a place of a log: 10 and the same place for a broken log; else 0, with the place past the record, or the same place at the end.
+#[no_mangle]
+pub extern "C" fn emuparasol_cut(log: &[u8], place: usize, next: &mut usize) -> u8
+    ensures { λ r. ⌜ found r (now (next .exit)) ≡ ofCut (cutAt (now (log .entry)) place) place ⌝ }
+{
+    let told = of_cut(cut(log, place), place);
+    *next = told.next;
+    told.number
+}
