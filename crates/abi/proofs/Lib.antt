@@ -1,2 +1,4 @@
 mod Carried
 mod InForce
+pub mod Only
+pub mod Apart

@@ -51,10 +51,10 @@ pub extern "C" fn emuparasol_lookup(
 
 // Melds a record into a pool: 7, 6, 4, 5, 2, 1, 3 or 0, and the looks.
 #[no_mangle]
-pub extern "C" fn emuparasol_meld(pool: &mut [u8], bytes: &[u8], looks: &mut u32) -> u8
-    ensures { λ r. ⌜ Melds (now (pool .entry)) (now (bytes .entry)) (now (pool .exit)) (melded r (now (looks .exit))) ⌝ }
+pub extern "C" fn emuparasol_meld(pool: &mut [u8], record: &[u8], looks: &mut u32) -> u8
+    ensures { λ r. ⌜ Melds (now (pool .entry)) (now («record» .entry)) (now (pool .exit)) (melded r (now (looks .exit))) ⌝ }
 {
-    let done = meld(pool, bytes);
+    let done = meld(pool, record);
     *looks = done.looks;
     let answer = done.answer;
     answer.number
@@ -89,18 +89,18 @@ pub extern "C" fn emuparasol_in_force<'a>(
     0 < size
 }
 
-// 0 where the bytes are exactly one well-formed record, else 4.
+// 0 where the bytes lent are exactly one well-formed record, else 4.
 #[no_mangle]
-pub extern "C" fn emuparasol_check(bytes: &[u8]) -> u8
-    ensures { λ r. ⌜ answer r ≡ checkOf (parse (now (bytes .entry))) ⌝ }
+pub extern "C" fn emuparasol_check(record: &[u8]) -> u8
+    ensures { λ r. ⌜ answer r ≡ checkOf (parse (now («record» .entry))) ⌝ }
 {
-    check(bytes).number
+    check(record).number
 }
 
-// Reads the record that the bytes are into the fronts of the lists: 4, 8 or 0, with the snapshot and both counts, all three 0 on a refusal.
+// Reads a record into the fronts of the lists: 4, 8 or 0, with the snapshot and both counts, all three 0 on a refusal.
 #[no_mangle]
 pub extern "C" fn emuparasol_read(
-    bytes: &[u8],
+    record: &[u8],
     kinds: &mut [u8],
     keys: &mut [u32],
     payloads: &mut [u64],
@@ -112,10 +112,10 @@ pub extern "C" fn emuparasol_read(
 ) -> u8
     ensures { λ r. ⌜ Reader.outcome (reading r (now (snapshot .exit)) (now (points .exit)) (now (scans .exit)))
         (Reader.lists (now (kinds .exit)) (now (keys .exit)) (now (payloads .exit)) (now (lows .exit)) (now (highs .exit)))
-        ≡ Reader.readOf (parse (now (bytes .entry)))
+        ≡ Reader.readOf (parse (now («record» .entry)))
         (Reader.lists (now (kinds .entry)) (now (keys .entry)) (now (payloads .entry)) (now (lows .entry)) (now (highs .entry))) ⌝ }
 {
-    let done = read(bytes, kinds, keys, payloads, lows, highs);
+    let done = read(record, kinds, keys, payloads, lows, highs);
     *snapshot = done.snapshot;
     *points = done.points;
     *scans = done.scans;

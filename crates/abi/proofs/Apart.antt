@@ -1,0 +1,125 @@
+-- The numbers tell the cases apart: what C is given says which case of the enum stood behind it, and where the record in force lies.
+-- Assumes nothing.
+use Prim.Native.Nat.{ℕ, _-_, _≤_, _<_}
+use mathlib.Core.Path.{_≡_, refl, sym, ap, _∙_}
+use mathlib.Core.Bool.{Bool, cond}
+use mathlib.Core.Option.{Option, none, some}
+use mathlib.Core.List.{List}
+use native.Mathlib.Omega.{arith}
+use lib.ListN.{length, take, drop}
+use lib.Seq.{take-length, length-take-le}
+use Rattle.rules.specs.State.{Entry, State, Lawful}
+use Rattle.rules.proofs.Finding.{find-of}
+use Rattle.rules.specs.Lookup.{Seen, absent, found, find, payloadAt, seen, lookup}
+use Rattle.pool.specs.Image.{Arrangement, Image, Fit, stateOf}
+use Rattle.log.specs.declared.found.Cut.{Cut}
+use Rattle.log.specs.declared.found.Cut.the-variants.{End, Broken, Record}
+use Rattle.log.specs.Log.{cutAt, partOf}
+use Rattle.log.proofs.Stands.{record-tells}
+use Rattle.force.specs.Force.{Source, original, refreshed, nothing, sourceOf, bytesFrom}
+use Rattle.meld.specs.Lookups.{lookupOf}
+use Rattle.abi.specs.declared.numbers.LookupNumbers.{LookupNumbers}
+use Rattle.abi.specs.declared.numbers.CutNumbers.{CutNumbers}
+use Rattle.abi.specs.Numbers as Numbers
+use Rattle.abi.specs.Numbers.{answer}
+use Rattle.abi.specs.Told.{LooksUpAs, inRefreshed, InForceAs}
+
+-- A LOOKUP
+
+-- 7 says that the pool is not fit; 0 with position 0 that the key is absent; 0 with a position that it was found, with this payload
+pub record LookupTells (m : List ℕ) (k n x w : ℕ) : Type 0 where
+  pub unfit : n ≡ 7 → Fit m → ⊥
+  pub absent-is : n ≡ 0 → w ≡ 0 → (A : Arrangement) → Image m A → lookup k (stateOf A) ≡ absent
+  pub found-is : n ≡ 0 → 1 ≤ w → (A : Arrangement) → Image m A → lookup k (stateOf A) ≡ found x w
+
+-- what is absent is not found
+absent-not-found : {P : Type 0} {x w : ℕ} → absent ≡ found x w → P
+absent-not-found e = let z : _≡_ {A = ℕ} 0 1 = cc in absurd (omega arith)
+
+-- a write's position is at least 1
+pub position-least : (S : State) → Lawful S → (k x w : ℕ) → lookup k S ≡ found x w → 1 ≤ w
+unfolding lookup
+position-least S l k x w h = of-find (find k (S .kept)) refl h
+  where
+    of-payload : (e : Entry) → 1 ≤ e .position → (y : Option ℕ) → payloadAt (e .position) y ≡ found x w → 1 ≤ w
+    of-payload e g none h = absent-not-found h
+    of-payload e g (some y) h = let z : e .position ≡ w = cc in omega arith
+
+    of-find : (o : Option Entry) → find k (S .kept) ≡ o → seen o ≡ found x w → 1 ≤ w
+    of-find none q h = absent-not-found h
+    of-find (some e) q h = of-payload e (l .positions e (find-of k (S .kept) q) .0) (e .payload) h
+
+pub lookup-tells : (m : List ℕ) (k n x w : ℕ) → LooksUpAs m k (Numbers.lookedUp n x w) → LookupTells m k n x w
+lookup-tells m k n x w h =
+    record {
+      unfit = λ e f. not-seven e (lookup k (stateOf (f .arrangement))) (h .fit (f .arrangement) (f .image));
+      absent-is = λ _ e A i. no-position e A i (lookup k (stateOf A)) refl (h .fit A i);
+      found-is = λ _ g A i. some-position g (lookup k (stateOf A)) (h .fit A i);
+    }
+  where
+    not-seven : n ≡ 7 → (s : Seen) → Numbers.lookedUp n x w ≡ Numbers.ofLookup (lookupOf s) → ⊥
+    not-seven e absent q = let z : n ≡ 0 = ap (λ (t : LookupNumbers). t .number) q in omega arith
+    not-seven e (found y v) q = let z : n ≡ 0 = ap (λ (t : LookupNumbers). t .number) q in omega arith
+
+    no-position : w ≡ 0 → (A : Arrangement) → Image m A → (s : Seen) → lookup k (stateOf A) ≡ s → Numbers.lookedUp n x w ≡ Numbers.ofLookup (lookupOf s) → s ≡ absent
+    no-position e A i absent is q = refl
+    no-position e A i (found y v) is q =
+        let z : w ≡ v = ap (λ (t : LookupNumbers). t .position) q in
+        let g : 1 ≤ v = position-least (stateOf A) (i .arranged .lawful) k y v is in
+        absurd (omega arith)
+
+    some-position : 1 ≤ w → (s : Seen) → Numbers.lookedUp n x w ≡ Numbers.ofLookup (lookupOf s) → s ≡ found x w
+    some-position g absent q = let z : w ≡ 0 = ap (λ (t : LookupNumbers). t .position) q in absurd (omega arith)
+    some-position g (found y v) q =
+        let z : x ≡ y = ap (λ (t : LookupNumbers). t .payload) q in
+        let u : w ≡ v = ap (λ (t : LookupNumbers). t .position) q in
+        cc
+
+-- A CUT
+
+-- 10 says that the log is broken there; 0 with the same place that it ends there; 0 with a later place that a record stands there
+pub record CutTells (log : List ℕ) (place n next : ℕ) : Type 0 where
+  pub broken-is : n ≡ 10 → cutAt log place ≡ Broken
+  pub end-is : n ≡ 0 → next ≡ place → cutAt log place ≡ End
+  pub record-is : n ≡ 0 → place < next → cutAt log place ≡ Record next
+
+pub cut-tells : (log : List ℕ) (place n next : ℕ) → Numbers.found n next ≡ Numbers.ofCut (cutAt log place) place → CutTells log place n next
+cut-tells log place n next h = go (cutAt log place) refl h
+  where
+    go : (c : Cut) → cutAt log place ≡ c → Numbers.found n next ≡ Numbers.ofCut c place → CutTells log place n next
+    go End is q =
+        let a : n ≡ 0 = ap (λ (t : CutNumbers). t .number) q in
+        let b : next ≡ place = ap (λ (t : CutNumbers). t .next) q in
+        record { broken-is = λ e. absurd (omega arith); end-is = λ _ _. is; record-is = λ _ e. absurd (omega arith) }
+    go Broken is q =
+        let a : n ≡ 10 = ap (λ (t : CutNumbers). t .number) q in
+        record { broken-is = λ _. is; end-is = λ e _. absurd (omega arith); record-is = λ e _. absurd (omega arith) }
+    go (Record past) is q =
+        let a : n ≡ 0 = ap (λ (t : CutNumbers). t .number) q in
+        let b : next ≡ past = ap (λ (t : CutNumbers). t .next) q in
+        let beyond = record-tells log place past is in
+        record {
+          broken-is = λ e. absurd (omega arith);
+          end-is = λ _ e. absurd (omega (arith, beyond .past));
+          record-is = λ _ _. is ∙ ap Record (sym b);
+        }
+
+-- THE RECORD IN FORCE
+
+-- what the log rule finds at the front is as many of the first bytes as it is long
+front-part : (b : List ℕ) (c : Cut) → cutAt b 0 ≡ c → take (length (partOf c b 0)) (drop 0 b) ≡ partOf c b 0
+front-part b End is = refl
+front-part b Broken is = refl
+front-part b (Record next) is =
+    let inside = record-tells b 0 next is .inside in
+    ap (λ (j : ℕ). take j (drop 0 b)) (length-take-le (next - 0) (drop 0 b) (omega arith))
+
+-- the slice that is told, from the offset on and so long, holds the bytes that `in_force` hands back
+pub in-force-tells : (n : ℕ) (o b : List ℕ) (r : Bool) (offset size : ℕ) → InForceAs n o b r offset size
+    → take size (drop offset (cond r b o)) ≡ bytesFrom (sourceOf (answer n) b) o b
+in-force-tells n o b r offset size h = rw (h .slice, h .start, h .bytes) (of-source (sourceOf (answer n) b))
+  where
+    of-source : (s : Source) → take (length (bytesFrom s o b)) (drop 0 (cond (inRefreshed s) b o)) ≡ bytesFrom s o b
+    of-source original = take-length o
+    of-source refreshed = front-part b (cutAt b 0) refl
+    of-source nothing = refl

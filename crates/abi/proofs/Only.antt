@@ -1,0 +1,100 @@
+-- No second answer meets the promise of an exported function: the number that it answers, every number that it sets and every byte that it
+-- leaves are fixed. Each comes from the law of the function below it, field by field.
+-- Assumes nothing.
+use Prim.Native.Nat.{ℕ}
+use mathlib.Core.Path.{_≡_, sym, ap, _∙_}
+use mathlib.Core.Bool.{Bool}
+use mathlib.Core.List.{List}
+use Rattle.words.specs.Word.{Bytes}
+use Rattle.record.specs.declared.answer.Answer.{Answer}
+use Rattle.record.specs.declared.reader.Reading.{Reading}
+use Rattle.record.specs.Parse.{parse, checkOf}
+use Rattle.record.specs.Reader as Reader
+use Rattle.record.proofs.Only.{check-only, read-only}
+use Rattle.writer.specs.declared.Written.{Written}
+use Rattle.writer.specs.Writer as Writer
+use Rattle.writer.proofs.Only.{write-only}
+use Rattle.log.specs.Log.{cutAt}
+use Rattle.pool.specs.Image.{Fit}
+use Rattle.fit.proofs.Decided.{fit-or-not}
+use Rattle.create.specs.Fresh.{Created}
+use Rattle.create.proofs.Only as Create
+use Rattle.refresh.specs.Refreshed.{RefreshIs}
+use Rattle.refresh.proofs.Only.{refresh-only}
+use Rattle.meld.specs.declared.melding.Melded.{Melded}
+use Rattle.meld.specs.Melds.{Melds}
+use Rattle.meld.proofs.Only as Meld
+use Rattle.abi.specs.declared.numbers.LookupNumbers.{LookupNumbers}
+use Rattle.abi.specs.declared.numbers.CutNumbers.{CutNumbers}
+use Rattle.abi.specs.Numbers.{answer, melded, reading, written, lookedUp, found, ofCut}
+use Rattle.abi.specs.Told.{LooksUpAs, InForceAs}
+
+-- `emuparasol_create`: one number, and one content of the pool
+pub only-create : (m : List ℕ) (n z r q : ℕ) (m′ m″ : List ℕ) → Created m n z (answer r) m′ → Created m n z (answer q) m″ → (r ≡ q) × (m′ ≡ m″)
+only-create m n z r q m′ m″ a b = let x = Create.only m n z (answer r) (answer q) m′ m″ a b in (ap (λ (y : Answer). y .number) (x .0), x .1)
+
+-- `emuparasol_lookup`: one number, payload and position, for any bytes lent as pool
+pub only-lookup : (m : List ℕ) (k n x w n′ x′ w′ : ℕ) → Bytes m → LooksUpAs m k (lookedUp n x w) → LooksUpAs m k (lookedUp n′ x′ w′)
+    → (n ≡ n′) × (x ≡ x′) × (w ≡ w′)
+only-lookup m k n x w n′ x′ w′ lent a b =
+    (ap (λ (t : LookupNumbers). t .number) same, ap (λ (t : LookupNumbers). t .payload) same, ap (λ (t : LookupNumbers). t .position) same)
+  where
+    by-fitness : Dec (Fit m) → lookedUp n x w ≡ lookedUp n′ x′ w′
+    by-fitness (yes f) = a .fit (f .arrangement) (f .image) ∙ sym (b .fit (f .arrangement) (f .image))
+    by-fitness (no u) = a .unfit u ∙ sym (b .unfit u)
+
+    same : lookedUp n x w ≡ lookedUp n′ x′ w′
+    same = by-fitness (fit-or-not m lent)
+
+-- `emuparasol_meld`: one number, one count of looks, and one content of the pool
+pub only-meld : (m bytes m′ m″ : List ℕ) (r looks q looks′ : ℕ) → Bytes m → Melds m bytes m′ (melded r looks) → Melds m bytes m″ (melded q looks′)
+    → (r ≡ q) × (looks ≡ looks′) × (m′ ≡ m″)
+only-meld m bytes m′ m″ r looks q looks′ lent a b =
+    let x = Meld.only-meld m bytes m′ m″ (melded r looks) (melded q looks′) lent a b in
+    (ap (λ (y : Melded). y .answer .number) (x .0), ap (λ (y : Melded). y .looks) (x .0), x .1)
+
+-- `emuparasol_refresh`: one number, and one content of the output
+pub only-refresh : (m original before : List ℕ) (r q : ℕ) (x y : List ℕ) → RefreshIs m original before (answer r) x → RefreshIs m original before (answer q) y
+    → (r ≡ q) × (x ≡ y)
+only-refresh m original before r q x y a b =
+    let z = refresh-only m original before (answer r) (answer q) x y a b in
+    (ap (λ (c : Answer). c .number) (z .0), z .1)
+
+-- `emuparasol_in_force`: one slice, one offset and one length
+pub only-in-force : (n : ℕ) (o b : List ℕ) (r q : Bool) (offset size offset′ size′ : ℕ) → InForceAs n o b r offset size → InForceAs n o b q offset′ size′
+    → (r ≡ q) × (offset ≡ offset′) × (size ≡ size′)
+only-in-force n o b r q offset size offset′ size′ h k = (h .slice ∙ sym (k .slice), h .start ∙ sym (k .start), h .bytes ∙ sym (k .bytes))
+
+-- `emuparasol_check`: one number
+pub only-check : (bytes : List ℕ) (r q : ℕ) → answer r ≡ checkOf (parse bytes) → answer q ≡ checkOf (parse bytes) → r ≡ q
+only-check bytes r q a b = ap (λ (c : Answer). c .number) (check-only bytes (answer r) (answer q) a b)
+
+-- `emuparasol_read`: one number, snapshot and two counts, and one content of all five lists
+pub only-read : (bytes : List ℕ) (before : Reader.Lists) (r s points scans q s′ points′ scans′ : ℕ) (left kept : Reader.Lists)
+    → Reader.outcome (reading r s points scans) left ≡ Reader.readOf (parse bytes) before
+    → Reader.outcome (reading q s′ points′ scans′) kept ≡ Reader.readOf (parse bytes) before
+    → (r ≡ q) × (s ≡ s′) × (points ≡ points′) × (scans ≡ scans′) × (left ≡ kept)
+only-read bytes before r s points scans q s′ points′ scans′ left kept a b =
+    let x = read-only bytes before (reading r s points scans) (reading q s′ points′ scans′) left kept a b in (
+      ap (λ (y : Reading). y .answer .number) (x .0),
+      ap (λ (y : Reading). y .snapshot) (x .0),
+      ap (λ (y : Reading). y .points) (x .0),
+      ap (λ (y : Reading). y .scans) (x .0),
+      x .1,
+    )
+
+-- `emuparasol_write`: one number and size, and one content of the output
+pub only-write : (snapshot : ℕ) (l : Reader.Lists) (output : List ℕ) (r size q size′ : ℕ) (left kept : List ℕ)
+    → Writer.outcome (written r size) left ≡ Writer.writeOf (Writer.recordOf snapshot l) output
+    → Writer.outcome (written q size′) kept ≡ Writer.writeOf (Writer.recordOf snapshot l) output
+    → (r ≡ q) × (size ≡ size′) × (left ≡ kept)
+only-write snapshot l output r size q size′ left kept a b =
+    let x = write-only snapshot l output (written r size) (written q size′) left kept a b in
+    (ap (λ (y : Written). y .answer .number) (x .0), ap (λ (y : Written). y .size) (x .0), x .1)
+
+-- `emuparasol_cut`: one number, and one place afterwards
+pub only-cut : (log : List ℕ) (place r next q next′ : ℕ) → found r next ≡ ofCut (cutAt log place) place → found q next′ ≡ ofCut (cutAt log place) place
+    → (r ≡ q) × (next ≡ next′)
+only-cut log place r next q next′ a b =
+    let same : found r next ≡ found q next′ = a ∙ sym b in
+    (ap (λ (t : CutNumbers). t .number) same, ap (λ (t : CutNumbers). t .next) same)
