@@ -30,7 +30,8 @@ ghost use Rattle.abi.specs.Told.{LooksUpAs, InForceAs};
 pub extern "C" fn emuparasol_create(pool: &mut [u8], n: u32, z: u32) -> u8
     ensures { λ r. ⌜ Created (now (pool .entry)) n z (answer r) (now (pool .exit)) ⌝ }
 {
-    create(pool, n, z).number
+    let answer = create(pool, n, z);
+    answer.number
 }
 
 // What is kept under a key: 7 for an unfit pool, else 0; payload and position of the last committed write, both 0 where there is none.
@@ -43,10 +44,10 @@ pub extern "C" fn emuparasol_lookup(
 ) -> u8
     ensures { λ r. ⌜ LooksUpAs (now (pool .entry)) key (lookedUp r (now (payload .exit)) (now (position .exit))) ⌝ }
 {
-    let told = of_lookup(lookup(pool, key));
-    *payload = told.payload;
-    *position = told.position;
-    told.number
+    let kept = of_lookup(lookup(pool, key));
+    *payload = kept.payload;
+    *position = kept.position;
+    kept.number
 }
 
 // Melds a record into a pool: 7, 6, 4, 5, 2, 1, 3 or 0, and the looks.
@@ -54,9 +55,9 @@ pub extern "C" fn emuparasol_lookup(
 pub extern "C" fn emuparasol_meld(pool: &mut [u8], record: &[u8], looks: &mut u32) -> u8
     ensures { λ r. ⌜ Melds (now (pool .entry)) (now («record» .entry)) (now (pool .exit)) (melded r (now (looks .exit))) ⌝ }
 {
-    let done = meld(pool, record);
-    *looks = done.looks;
-    let answer = done.answer;
+    let melded = meld(pool, record);
+    *looks = melded.looks;
+    let answer = melded.answer;
     answer.number
 }
 
@@ -65,7 +66,8 @@ pub extern "C" fn emuparasol_meld(pool: &mut [u8], record: &[u8], looks: &mut u3
 pub extern "C" fn emuparasol_refresh(pool: &[u8], original: &[u8], output: &mut [u8]) -> u8
     ensures { λ r. ⌜ RefreshIs (now (pool .entry)) (now (original .entry)) (now (output .entry)) (answer r) (now (output .exit)) ⌝ }
 {
-    refresh(pool, original, output).number
+    let answer = refresh(pool, original, output);
+    answer.number
 }
 
 // Where the record in force lies after a refresh's answer: true in `refreshed`, false in `original`, from the offset on and so long.
@@ -94,7 +96,8 @@ pub extern "C" fn emuparasol_in_force<'a>(
 pub extern "C" fn emuparasol_check(record: &[u8]) -> u8
     ensures { λ r. ⌜ answer r ≡ checkOf (parse (now («record» .entry))) ⌝ }
 {
-    check(record).number
+    let answer = check(record);
+    answer.number
 }
 
 // Reads a record into the fronts of the lists: 4, 8 or 0, with the snapshot and both counts, all three 0 on a refusal.
@@ -115,11 +118,11 @@ pub extern "C" fn emuparasol_read(
         ≡ Reader.readOf (parse (now («record» .entry)))
         (Reader.lists (now (kinds .entry)) (now (keys .entry)) (now (payloads .entry)) (now (lows .entry)) (now (highs .entry))) ⌝ }
 {
-    let done = read(record, kinds, keys, payloads, lows, highs);
-    *snapshot = done.snapshot;
-    *points = done.points;
-    *scans = done.scans;
-    let answer = done.answer;
+    let reading = read(record, kinds, keys, payloads, lows, highs);
+    *snapshot = reading.snapshot;
+    *points = reading.points;
+    *scans = reading.scans;
+    let answer = reading.answer;
     answer.number
 }
 
@@ -140,9 +143,9 @@ pub extern "C" fn emuparasol_write(
         (Reader.lists (now (kinds .entry)) (now (keys .entry)) (now (payloads .entry)) (now (lows .entry)) (now (highs .entry))))
         (now (output .entry)) ⌝ }
 {
-    let done = write(snapshot, kinds, keys, payloads, lows, highs, output);
-    *size = done.size;
-    let answer = done.answer;
+    let written = write(snapshot, kinds, keys, payloads, lows, highs, output);
+    *size = written.size;
+    let answer = written.answer;
     answer.number
 }
 
@@ -151,7 +154,7 @@ pub extern "C" fn emuparasol_write(
 pub extern "C" fn emuparasol_cut(log: &[u8], place: usize, next: &mut usize) -> u8
     ensures { λ r. ⌜ found r (now (next .exit)) ≡ ofCut (cutAt (now (log .entry)) place) place ⌝ }
 {
-    let told = of_cut(cut(log, place), place);
-    *next = told.next;
-    told.number
+    let found = of_cut(cut(log, place), place);
+    *next = found.next;
+    found.number
 }
