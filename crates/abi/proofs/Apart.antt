@@ -61,7 +61,8 @@ lookup-tells m k n x w h =
     not-seven e absent q = let z : n ≡ 0 = ap (λ (t : LookupNumbers). t .number) q in omega arith
     not-seven e (found y v) q = let z : n ≡ 0 = ap (λ (t : LookupNumbers). t .number) q in omega arith
 
-    no-position : w ≡ 0 → (A : Arrangement) → Image m A → (s : Seen) → lookup k (stateOf A) ≡ s → Numbers.lookedUp n x w ≡ Numbers.ofLookup (lookupOf s) → s ≡ absent
+    no-position : w ≡ 0 → (A : Arrangement) → Image m A → (s : Seen) → lookup k (stateOf A) ≡ s
+        → Numbers.lookedUp n x w ≡ Numbers.ofLookup (lookupOf s) → s ≡ absent
     no-position e A i absent is q = refl
     no-position e A i (found y v) is q =
         let z : w ≡ v = ap (λ (t : LookupNumbers). t .position) q in

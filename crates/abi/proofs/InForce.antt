@@ -51,7 +51,8 @@ module _ (n : ℕ) (o b r : RefT (List ℕ)) (h : InForce (answer n) o b r) wher
   -- after 0
   pub after-zero : n ≡ 0 → InForceAs n (now o) (now b) (ltb 0 (length (now r))) 0 (length (now r))
   after-zero e = record {
-    slice = ap (ltb 0) long ∙ subst (λ (s : Source). ltb 0 (length (bytesFrom s (now o) (now b))) ≡ inRefreshed s) (sym (source e)) (filled (cutAt (now b) 0) refl);
+    slice = ap (ltb 0) long
+        ∙ subst (λ (s : Source). ltb 0 (length (bytesFrom s (now o) (now b))) ≡ inRefreshed s) (sym (source e)) (filled (cutAt (now b) 0) refl);
     start = refl;
     bytes = long;
   }

@@ -54,14 +54,15 @@ only-meld m bytes m′ m″ r looks q looks′ lent a b =
     (ap (λ (y : Melded). y .answer .number) (x .0), ap (λ (y : Melded). y .looks) (x .0), x .1)
 
 -- `emuparasol_refresh`: one number, and one content of the output
-pub only-refresh : (m original before : List ℕ) (r q : ℕ) (x y : List ℕ) → RefreshIs m original before (answer r) x → RefreshIs m original before (answer q) y
-    → (r ≡ q) × (x ≡ y)
+pub only-refresh : (m original before : List ℕ) (r q : ℕ) (x y : List ℕ)
+    → RefreshIs m original before (answer r) x → RefreshIs m original before (answer q) y → (r ≡ q) × (x ≡ y)
 only-refresh m original before r q x y a b =
     let z = refresh-only m original before (answer r) (answer q) x y a b in
     (ap (λ (c : Answer). c .number) (z .0), z .1)
 
 -- `emuparasol_in_force`: one slice, one offset and one length
-pub only-in-force : (n : ℕ) (o b : List ℕ) (r q : Bool) (offset size offset′ size′ : ℕ) → InForceAs n o b r offset size → InForceAs n o b q offset′ size′
+pub only-in-force : (n : ℕ) (o b : List ℕ) (r q : Bool) (offset size offset′ size′ : ℕ)
+    → InForceAs n o b r offset size → InForceAs n o b q offset′ size′
     → (r ≡ q) × (offset ≡ offset′) × (size ≡ size′)
 only-in-force n o b r q offset size offset′ size′ h k = (h .slice ∙ sym (k .slice), h .start ∙ sym (k .start), h .bytes ∙ sym (k .bytes))
 
@@ -93,8 +94,8 @@ only-write snapshot l output r size q size′ left kept a b =
     (ap (λ (y : Written). y .answer .number) (x .0), ap (λ (y : Written). y .size) (x .0), x .1)
 
 -- `emuparasol_cut`: one number, and one place afterwards
-pub only-cut : (log : List ℕ) (place r next q next′ : ℕ) → found r next ≡ ofCut (cutAt log place) place → found q next′ ≡ ofCut (cutAt log place) place
-    → (r ≡ q) × (next ≡ next′)
+pub only-cut : (log : List ℕ) (place r next q next′ : ℕ)
+    → found r next ≡ ofCut (cutAt log place) place → found q next′ ≡ ofCut (cutAt log place) place → (r ≡ q) × (next ≡ next′)
 only-cut log place r next q next′ a b =
     let same : found r next ≡ found q next′ = a ∙ sym b in
     (ap (λ (t : CutNumbers). t .number) same, ap (λ (t : CutNumbers). t .next) same)
