@@ -23,8 +23,8 @@ use Rattle.log.proofs.Only.{SameSlice, only-cut, only-part}
 use Rattle.walker.specs.declared.LogReader.{LogReader}
 use Rattle.walker.specs.declared.Step.{Step}
 use Rattle.walker.specs.declared.Move.{Move}
-use Rattle.walker.specs.Walker.{Stepped, Moved}
-use Rattle.walker.proofs.Only.{SameStep, only-step, only-step-at}
+use Rattle.walker.specs.Walker.{Opened, Stands, Stepped, Moved}
+use Rattle.walker.proofs.Only.{SameStep, only-new, only-step, only-step-at}
 use Rattle.pool.specs.Image.{Fit}
 use Rattle.fit.specs.Whole.{Decides}
 use Rattle.fit.proofs.Promises as Fitness
@@ -69,7 +69,14 @@ pub write-pairs-one : (snapshot : ℕ) (ks es xs : List ℕ) (cs : List Scan) (b
     → OneAnswer (λ (o : Writer.Outcome). o ≡ writeOf (recordOf snapshot (lists ks es xs (map lowOf cs) (map highOf cs))) before)
 write-pairs-one snapshot ks es xs cs before = one-if-equal (writeOf (recordOf snapshot (lists ks es xs (map lowOf cs) (map highOf cs))) before)
 
+pub place-one : (reader : LogReader) → OneAnswer (λ (n : ℕ). Stands reader n)
+place-one reader = one-if-equal (reader .place)
+
 -- WHERE IT IS MORE
+
+-- the log lent, the same slice, and the place
+pub new-one : (log : RefT (List ℕ)) → OneAnswer (λ (r : LogReader). Opened log r)
+new-one log = only-new log
 
 pub cut-one : (log : List ℕ) (place : ℕ) → OneAnswer (λ (c : Cut). CutIs log place c)
 cut-one log place = only-cut log place
