@@ -1,6 +1,6 @@
 -- What the places of `count_below` and `count_old` ask, from what is known there.
 -- Assumes nothing.
-use Prim.Native.Nat.{ℕ, _+_, _*_, _≤_, _<_}
+use Prim.Native.Nat.{ℕ, _+_, _-_, _*_, _≤_, _<_}
 use native.Mathlib.Omega.{arith}
 use mathlib.Core.Path.{_≡_, refl, sym, ap, subst, _∙_}
 use mathlib.Core.Logic.{_≢_}
@@ -18,7 +18,7 @@ use Rattle.pool.specs.Image.{Arrangement, Image, Fit, stateOf, treeOr, rootOr}
 use Rattle.pool.proofs.Numbers.{times, times-append, below-mem}
 use Rattle.pool.proofs.Frame.{root-holds, root-in}
 use Rattle.drop.specs.Old.{old}
-use Rattle.drop.specs.Spot.{top, Stands, Standing, Counted}
+use Rattle.drop.specs.Spot.{top, Stands, Standing, UpTo, Counted}
 use Rattle.drop.proofs.Olds.{live-stays, tombstone-old, none-old, old-few}
 use Rattle.drop.proofs.Fitting.{below-part, image-stands}
 use Rattle.drop.proofs.Roots.{IsInner, root-oldest, root-height, as-tombstone, as-live, as-inner}
@@ -63,31 +63,35 @@ module _ (m : List ℕ) (n i h low : ℕ) (l r : Plan) (s : Stands m n (node i h
 
 -- EACH RETURN
 
+-- a number that is all there is
+exactly : {k r : ℕ} (most : ℕ) → r ≤ most → r ≡ k → UpTo most k r
+exactly most l e = record { at-most = l; counted = omega arith; all = λ _. e }
+
 module _ (m : List ℕ) (i limit : ℕ) (x : Node) (a : x ≡ nodeAt m i) where
   -- the node read is the tree's root
   word-of : (n : ℕ) (T : Plan) → number T ≡ i → Stands m n T → x ≡ rootNode T
   word-of n T at s = a ∙ ap (λ (j : ℕ). nodeAt m j) (sym at) ∙ root-holds T m (s .holds)
 
   -- the oldest tombstone is above the limit: nothing is old
-  pub count-none : limit < x .oldest → Counted m i limit 0
-  count-none h n T at s =
-      sym (none-old limit (treeIn T) (omega (arith, root-oldest T, ap (λ (y : Node). y .oldest) (word-of n T at s))))
+  pub count-none : (most : ℕ) → limit < x .oldest → Counted m i limit most 0
+  count-none most h n T at s =
+      exactly most (omega arith) (sym (none-old limit (treeIn T) (omega (arith, root-oldest T, ap (λ (y : Node). y .oldest) (word-of n T at s)))))
 
   -- a tombstone at or below the limit is one
-  pub count-tombstone : x .oldest ≤ limit → x .kind ≡ 2 → Counted m i limit 1
+  pub count-tombstone : (most : ℕ) → 1 ≤ most → x .oldest ≤ limit → x .kind ≡ 2 → Counted m i limit most 1
   unfolding entries oldest
-  count-tombstone h q n T at s =
+  count-tombstone most g h q n T at s =
       let o = as-tombstone i T at (ap (λ (y : Node). y .kind) (sym (word-of n T at s)) ∙ q) in
       let w : oldest (treeIn T) ≡ o .entry .position = ap (λ (T : Plan). oldest (treeIn T)) (o .is) ∙ rw (o .payload) in
       let v : x .oldest ≡ oldest (treeIn T) = ap (λ (y : Node). y .oldest) (word-of n T at s) ∙ root-oldest T in
-      rw (o .is, tombstone-old limit (o .entry) (o .payload) (omega arith))
+      exactly most g (rw (o .is, tombstone-old limit (o .entry) (o .payload) (omega arith)))
 
   -- a live key is none
-  pub count-live : x .kind ≡ 1 → Counted m i limit 0
+  pub count-live : (most : ℕ) → x .kind ≡ 1 → Counted m i limit most 0
   unfolding entries
-  count-live q n T at s =
+  count-live most q n T at s =
       let o = as-live i T at (ap (λ (y : Node). y .kind) (sym (word-of n T at s)) ∙ q) in
-      rw (o .is, live-stays limit (o .entry) (o .payload))
+      exactly most (omega arith) (rw (o .is, live-stays limit (o .entry) (o .payload)))
 
   module _ (p : x .kind ≢ 2) (q : x .kind ≢ 1) where
     -- any other node has two sides
@@ -138,28 +142,51 @@ module _ (m : List ℕ) (i limit : ℕ) (x : Node) (a : x ≡ nodeAt m i) where
         let high : nodeAt m i .height ≡ o .height = ap (λ (y : Node). y .height) (sym a ∙ o .word) in
         (omega (arith, o .stands .falling .1), record { count = g .count; tree = o .right; at = at; stands = s })
 
-    module _ (c d : ℕ) (f : Counted m (x .left) limit c) (e : Counted m (x .right) limit d) where
-      -- what the two calls counted
-      sums : (n : ℕ) (T : Plan) (o : Opened n T) → (c ≡ length (keep (old limit) (entries (treeIn (o .left))))) × (d ≡ length (keep (old limit) (entries (treeIn (o .right)))))
-      sums n T o = (
-        f n (o .left) (ap (λ (y : Node). y .left) (sym (o .word))) (stands-left m n i (o .height) (o .low) (o .left) (o .right) (o .stands)),
-        e n (o .right) (ap (λ (y : Node). y .right) (sym (o .word))) (stands-right m n i (o .height) (o .low) (o .left) (o .right) (o .stands)),
-      )
+    -- the old tombstones of the whole are those of both sides
+    both-old : (n : ℕ) (T : Plan) (o : Opened n T)
+        → length (keep (old limit) (entries (treeIn T))) ≡ length (keep (old limit) (entries (treeIn (o .left)))) + length (keep (old limit) (entries (treeIn (o .right))))
+    unfolding entries
+    both-old n T o = rw (o .is, keep-append (old limit) (entries (treeIn (o .left))) (entries (treeIn (o .right))), length-append)
 
-      -- the sum does not wrap
-      pub count-fits : Standing m i → c + d < 4294967296
-      count-fits g =
-          let o = opened (g .count) (g .tree) (g .at) (g .stands) in
-          let z = sums (g .count) (g .tree) o in
-          omega (arith, old-few limit (entries (treeIn (o .left))), old-few limit (entries (treeIn (o .right))), both m (g .count) i (o .height) (o .low) (o .left) (o .right) (o .stands))
+    module _ (most c : ℕ) (f : Counted m (x .left) limit most c) where
+      -- what the first call counted
+      left-old : (n : ℕ) (T : Plan) (o : Opened n T) → UpTo most (length (keep (old limit) (entries (treeIn (o .left))))) c
+      left-old n T o = f n (o .left) (ap (λ (y : Node). y .left) (sym (o .word))) (stands-left m n i (o .height) (o .low) (o .left) (o .right) (o .stands))
 
-      -- and is what the whole holds
-      pub count-both : Counted m i limit (c + d)
-      unfolding entries
-      count-both n T at s =
+      -- enough were found on the left
+      pub count-enough : most ≤ c → Counted m i limit most c
+      count-enough g n T at s =
           let o = opened n T at s in
-          let z = sums n T o in
-          rw (o .is, keep-append (old limit) (entries (treeIn (o .left))) (entries (treeIn (o .right))), length-append) (omega arith)
+          let y = left-old n T o in
+          record { at-most = y .at-most; counted = omega (arith, y .counted, both-old n T o); all = λ l. absurd (omega arith) }
+
+      module _ (d : ℕ) (e : Counted m (x .right) limit (most - c) d) (few : c < most) where
+        -- what the second call counted
+        right-old : (n : ℕ) (T : Plan) (o : Opened n T) → UpTo (most - c) (length (keep (old limit) (entries (treeIn (o .right))))) d
+        right-old n T o = e n (o .right) (ap (λ (y : Node). y .right) (sym (o .word))) (stands-right m n i (o .height) (o .low) (o .left) (o .right) (o .stands))
+
+        -- the sum does not wrap
+        pub count-fits : Standing m i → c + d < 4294967296
+        count-fits g =
+            let o = opened (g .count) (g .tree) (g .at) (g .stands) in
+            omega (
+              arith,
+              left-old (g .count) (g .tree) o .counted,
+              right-old (g .count) (g .tree) o .counted,
+              old-few limit (entries (treeIn (o .left))),
+              old-few limit (entries (treeIn (o .right))),
+              both m (g .count) i (o .height) (o .low) (o .left) (o .right) (o .stands),
+            )
+
+        -- and is what the whole holds
+        pub count-both : Counted m i limit most (c + d)
+        count-both n T at s =
+            let o = opened n T at s in
+            let y = left-old n T o in
+            let z = right-old n T o in
+            let w = both-old n T o in
+            let l = y .all few in
+            record { at-most = omega (arith, z .at-most); counted = omega (arith, y .counted, z .counted); all = λ k. omega (arith, z .all (omega arith)) }
 
 -- THE WHOLE
 
@@ -178,12 +205,12 @@ module _ (m : List ℕ) (limit : ℕ) (h : Header) (e : h ≡ headerAt m) where
   root-small A g T q z = let s = image-stands m A T g q in omega (arith, below-mem (s .below) (root-in T), s .small)
 
   -- no tree holds nothing old
-  pub whole-none : h .root ≡ noNode → (A : Arrangement) → Image m A → 0 ≡ length (keep (old limit) (stateOf A .kept))
+  pub whole-none : (most : ℕ) → h .root ≡ noNode → (A : Arrangement) → Image m A → UpTo most (length (keep (old limit) (stateOf A .kept))) 0
   unfolding entries
-  whole-none z A g = go (A .tree) refl
+  whole-none most z A g = go (A .tree) refl
     where
-      go : (X : Option Plan) → A .tree ≡ X → 0 ≡ length (keep (old limit) (entries (treeOr X)))
-      go none q = refl
+      go : (X : Option Plan) → A .tree ≡ X → UpTo most (length (keep (old limit) (entries (treeOr X)))) 0
+      go none q = exactly most (omega arith) refl
       go (some T) q = absurd (root-small A g T q (sym (ap rootOr q) ∙ sym (root-of A g) ∙ z))
 
   -- the arrangement's tree stands at the root
@@ -195,9 +222,9 @@ module _ (m : List ℕ) (limit : ℕ) (h : Header) (e : h ≡ headerAt m) where
       go (some T) q = record { count = 2 * g .arrangement .N; tree = T; at = sym (ap rootOr q) ∙ sym (root-of (g .arrangement) (g .image)); stands = image-stands m (g .arrangement) T (g .image) q }
 
   -- what was counted there is what the state has
-  pub whole-count : (c : ℕ) → h .root ≢ noNode → Counted m (h .root) limit c → (A : Arrangement) → Image m A → c ≡ length (keep (old limit) (stateOf A .kept))
-  whole-count c z f A g = go (A .tree) refl
+  pub whole-count : (most c : ℕ) → h .root ≢ noNode → Counted m (h .root) limit most c → (A : Arrangement) → Image m A → UpTo most (length (keep (old limit) (stateOf A .kept))) c
+  whole-count most c z f A g = go (A .tree) refl
     where
-      go : (X : Option Plan) → A .tree ≡ X → c ≡ length (keep (old limit) (entries (treeOr X)))
+      go : (X : Option Plan) → A .tree ≡ X → UpTo most (length (keep (old limit) (entries (treeOr X)))) c
       go none q = absurd (z (root-of A g ∙ ap rootOr q))
       go (some T) q = f (2 * A .N) T (sym (ap rootOr q) ∙ sym (root-of A g)) (image-stands m A T g q)

@@ -42,9 +42,15 @@ pub record Standing (m : List ℕ) (i : ℕ) : Type 0 where
   pub at : number tree ≡ i
   pub stands : Stands m count tree
 
--- r is the number of old tombstones of whatever tree stands at node i
-abbrev pub Counted : List ℕ → ℕ → ℕ → ℕ → Type 0
-Counted m i limit r = (n : ℕ) (T : Plan) → number T ≡ i → Stands m n T → r ≡ length (keep (old limit) (entries (treeIn T)))
+-- r is k, or most where k is more
+pub record UpTo (most k r : ℕ) : Type 0 where
+  pub at-most : r ≤ most
+  pub counted : r ≤ k
+  pub all : r < most → r ≡ k
+
+-- r is the number of old tombstones of whatever tree stands at node i, or most where there are more
+abbrev pub Counted : List ℕ → ℕ → ℕ → ℕ → ℕ → Type 0
+Counted m i limit most r = (n : ℕ) (T : Plan) → number T ≡ i → Stands m n T → UpTo most (length (keep (old limit) (entries (treeIn T)))) r
 
 -- node i has come to the front of the free nodes, of which f was the first and which were k in number
 pub record Freed (m : List ℕ) (i root f k : ℕ) (m′ : List ℕ) (root′ f′ k′ : ℕ) : Type 0 where

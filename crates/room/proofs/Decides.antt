@@ -18,6 +18,7 @@ use Rattle.rules.specs.State.{Entry, State, Lawful}
 use Rattle.rules.specs.Verdict.{whole, count}
 use Rattle.pool.specs.Image.{Arrangement, Image, Fit, stateOf}
 use Rattle.drop.specs.Old.{old, stays}
+use Rattle.drop.specs.Spot.{UpTo}
 use Rattle.find.specs.declared.Found.{Found}
 use Rattle.room.specs.declared.tally.Tally.{Tally}
 use Rattle.room.specs.declared.room.Room.the-variants.{Enough, AfterDrop, TooLittle}
@@ -103,25 +104,23 @@ module _ (m kinds ks : List ℕ) (fit : Fit m) (w : Writable m kinds ks) (h : He
       let x : length (whole (stateOf A) (r .points)) ≤ A .N = omega (arith, whole-counted A i r v ek ee, words A i .limit-is) in
       rw (le-ltb (A .N) (length (whole (stateOf A) (r .points))) x)
 
-  module _ (o : ℕ) (eo : (A : Arrangement) → Image m A → o ≡ length (keep (old limit) (stateOf A .kept))) where
-    pub old-within : o ≤ h .kept + t .absent + t .revived
-    old-within =
-        let A = fit .arrangement in
-        let i = fit .image in
-        omega (arith, eo A i, length-stays limit (stateOf A .kept), words A i .kept-is)
+  module _ (more : h .limit < h .kept + t .absent) where
+    -- as many old tombstones must go: one at least
+    pub some-needed : 1 ≤ h .kept + t .absent + t .revived - h .limit
+    some-needed = omega arith
 
-    module _ (more : h .limit < h .kept + t .absent) where
+    module _ (o : ℕ) (eo : (A : Arrangement) → Image m A → UpTo (h .kept + t .absent + t .revived - h .limit) (length (keep (old limit) (stateOf A .kept))) o) where
       passes : (A : Arrangement) → Image m A → (r : Rec) → Valid r → kinds ≡ map kindOf (r .points) → ks ≡ map keyOf (r .points) → ltb (A .N) (length (whole (stateOf A) (r .points))) ≡ true
       passes A i r v ek ee = lt-ltb (A .N) (length (whole (stateOf A) (r .points))) (omega (arith, whole-counted A i r v ek ee, words A i .limit-is))
 
-      pub after-drop : h .kept + t .absent + t .revived - o ≤ h .limit → RoomIs m kinds ks AfterDrop
+      pub after-drop : h .kept + t .absent + t .revived - h .limit ≤ o → RoomIs m kinds ks AfterDrop
       unfolding roomOf
       after-drop l A i r v ek ee =
-          let x : count (stateOf A) (r .points) ≤ A .N = omega (arith, count-counted A i r v ek ee, eo A i, words A i .limit-is) in
+          let x : count (stateOf A) (r .points) ≤ A .N = omega (arith, count-counted A i r v ek ee, eo A i .counted, words A i .limit-is) in
           rw (passes A i r v ek ee, le-ltb (A .N) (count (stateOf A) (r .points)) x)
 
-      pub too-little : h .limit < h .kept + t .absent + t .revived - o → RoomIs m kinds ks TooLittle
+      pub too-little : o < h .kept + t .absent + t .revived - h .limit → RoomIs m kinds ks TooLittle
       unfolding roomOf
       too-little l A i r v ek ee =
-          let x : A .N < count (stateOf A) (r .points) = omega (arith, count-counted A i r v ek ee, eo A i, words A i .limit-is) in
+          let x : A .N < count (stateOf A) (r .points) = omega (arith, count-counted A i r v ek ee, eo A i .all l, words A i .limit-is) in
           rw (passes A i r v ek ee, lt-ltb (A .N) (count (stateOf A) (r .points)) x)

@@ -25,7 +25,7 @@ pub fn old_limit(position: u32, zone: u32) -> u32
     if zone <= v { v - zone } else { 0 }
 }
 
-// What there is room for in a fit pool. Old tombstones are counted only if the kept and the written keys pass N.
+// What there is room for in a fit pool. Old tombstones are counted only if the kept and the written keys pass N, and only up to as many as must go.
 pub fn room_for(pool: &[u8], kinds: &[u8], keys: &[u32]) -> Room
     requires { ⌜ Fit (now pool) ⌝ }
     requires { ⌜ Writable (now pool) (now kinds) (now keys) ⌝ }
@@ -38,7 +38,8 @@ pub fn room_for(pool: &[u8], kinds: &[u8], keys: &[u32]) -> Room
     if all <= h.limit {
         return Room::Enough;
     }
-    if all + written.revived - count_old(pool, limit) <= h.limit {
+    let needed = all + written.revived - h.limit;
+    if needed <= count_old(pool, limit, needed) {
         return Room::AfterDrop;
     }
     Room::TooLittle

@@ -1,11 +1,12 @@
 -- `count_below` calls itself on the children of a node. The measure is the node's height.
 -- Assumes nothing.
 use Prim.Native.Nat.{ℕ, _<_}
+use native.Mathlib.Omega.{arith}
 use borrow.Fn.Kinds.{In}
 use borrow.Fn.PlainCycle.{Measures, is, falls, and}
 use borrow.Author.Needs.{needs}
 use Rattle.nodes.specs.Nodes.{nodeAt}
-use Rattle.drop.proofs.Counting.{standing-room, count-none, count-tombstone, count-live, asks-left, asks-right, count-fits, count-both}
+use Rattle.drop.proofs.Counting.{standing-room, count-none, count-tombstone, count-live, asks-left, asks-right, count-enough, count-fits, count-both}
 use Rattle.drop.proofs.count.count_below.Reads as count-below
 use Rattle.drop.proofs.count.count_below.Kinds as count-below-kinds
 use Rattle.drop.proofs.count.+count_below.Lts-count_below as lts
@@ -38,16 +39,22 @@ returns-3 : (t : ℕ) → lts.Need-returns-3 (calls t) (at t) count-below.Post
 returns-3 t c = search (count-live, needs)
 
 count-below-requires : (t : ℕ) → lts.Need-count-below-requires (calls t) (at t) count-below.Post
-count-below-requires t c κs = asks-left _ _ (c .before .before .before .before .before .before .before .before .args .limit) _ (c .before .before .before .before .before .before .read-node .ensures) (c .before .before .if2 .left) (c .if3 .left) (c .before .before .before .before .before .before .before .before .pre .1) t (c .before .before .before .before .before .before .before .before .pre .0)
-
-count-below-requires-2 : (t : ℕ) → lts.Need-count-below-requires-2 (calls t) (at t) count-below.Post
-count-below-requires-2 t c κs = asks-right _ _ (c .before .before .before .before .before .before .before .before .before .args .limit) _ (c .before .before .before .before .before .before .before .read-node .ensures) (c .before .before .before .if2 .left) (c .before .if3 .left) (c .before .before .before .before .before .before .before .before .before .pre .1) t (c .before .before .before .before .before .before .before .before .before .pre .0)
-
-add-result : (t : ℕ) → lts.Need-add-result (calls t) (at t) count-below.Post
-add-result t c = record { fits = count-fits _ _ _ _ (c .before .before .before .before .before .before .before .before .read-node .ensures) (c .before .before .before .before .if2 .left) (c .before .before .if3 .left) _ _ (c .before .count-below .ensures) (c .count-below2 .ensures) (c .before .before .before .before .before .before .before .before .before .before .pre .1) }
+count-below-requires t c κs = let x = asks-left _ _ (c .before .before .before .before .before .before .before .before .args .limit) _ (c .before .before .before .before .before .before .read-node .ensures) (c .before .before .if2 .left) (c .if3 .left) (c .before .before .before .before .before .before .before .before .pre .1 .0) t (c .before .before .before .before .before .before .before .before .pre .0) in (x .0, (x .1, c .before .before .before .before .before .before .before .before .pre .1 .1))
 
 returns-4 : (t : ℕ) → lts.Need-returns-4 (calls t) (at t) count-below.Post
-returns-4 t c = count-both _ _ _ _ (c .before .before .before .before .before .before .before .before .read-node .ensures) (c .before .before .before .before .if2 .left) (c .before .before .if3 .left) _ _ (c .before .count-below .ensures) (c .count-below2 .ensures)
+returns-4 t c = count-enough _ _ _ _ (c .before .before .before .before .before .before .before .before .read-node .ensures) (c .before .before .before .before .if2 .left) (c .before .before .if3 .left) _ _ (c .before .count-below .ensures) (c .if4 .taken)
+
+sub-count-below : (t : ℕ) → lts.Need-sub-count-below (calls t) (at t) count-below.Post
+sub-count-below t c = search needs
+
+count-below-requires-2 : (t : ℕ) → lts.Need-count-below-requires-2 (calls t) (at t) count-below.Post
+count-below-requires-2 t c κs = let x = asks-right _ _ (c .before .before .before .before .before .before .before .before .before .before .args .limit) _ (c .before .before .before .before .before .before .before .before .read-node .ensures) (c .before .before .before .before .if2 .left) (c .before .before .if3 .left) (c .before .before .before .before .before .before .before .before .before .before .pre .1 .0) t (c .before .before .before .before .before .before .before .before .before .before .pre .0) in (x .0, (x .1, omega (arith, c .if4 .left)))
+
+add-result : (t : ℕ) → lts.Need-add-result (calls t) (at t) count-below.Post
+add-result t c = record { fits = count-fits _ _ _ _ (c .before .before .before .before .before .before .before .before .before .read-node .ensures) (c .before .before .before .before .before .if2 .left) (c .before .before .before .if3 .left) _ _ (c .before .before .count-below .ensures) _ (c .count-below2 .ensures) (c .before .if4 .left) (c .before .before .before .before .before .before .before .before .before .before .before .pre .1 .0) }
+
+returns-5 : (t : ℕ) → lts.Need-returns-5 (calls t) (at t) count-below.Post
+returns-5 t c = count-both _ _ _ _ (c .before .before .before .before .before .before .before .before .before .read-node .ensures) (c .before .before .before .before .before .if2 .left) (c .before .before .before .if3 .left) _ _ (c .before .before .count-below .ensures) _ (c .count-below2 .ensures) (c .before .if4 .left)
 
 pub +count-below-spec : {M : Type 1} → statement M
 +count-below-spec = close μ λ t. lts.spec (calls t) (at t) count-below.Post
@@ -56,6 +63,8 @@ pub +count-below-spec : {M : Type 1} → statement M
     (returns-2 t)
     (returns-3 t)
     (count-below-requires t)
+    (returns-4 t)
+    (sub-count-below t)
     (count-below-requires-2 t)
     (add-result t)
-    (returns-4 t)
+    (returns-5 t)

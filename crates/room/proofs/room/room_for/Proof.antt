@@ -1,6 +1,7 @@
 -- `room::room_for` meets its promise: what was counted decides row 3 (Decides.antt).
-use Rattle.room.proofs.Decides.{position-left, lists-same, lists-few, all-fits, more-fits, old-within, enough, after-drop, too-little}
+use Rattle.room.proofs.Decides.{position-left, lists-same, lists-few, all-fits, more-fits, enough, after-drop, too-little}
 use borrow.Author.Needs.{needs}
+use native.Mathlib.Omega.{arith}
 use Rattle.room.proofs.room.room_for.Statement.{statement}
 use Rattle.room.proofs.room.room_for.Tie as tie
 
@@ -19,20 +20,20 @@ add-all c = record { fits = all-fits _ _ _ (c .before .before .before .before .b
 returns : tie.Need-returns
 returns c = enough _ _ _ (c .before .before .before .before .before .before .before .before .before .before .pre .0) (c .before .before .before .before .before .before .before .before .before .before .pre .1) _ (c .before .before .before .before .before .before .read-header .ensures) _ (c .before .before .before .before .before .old-limit .ensures) _ (c .before .before .before .before .tally-points .ensures) (c .if1 .taken)
 
-add-if2 : tie.Need-add-if2
-add-if2 c = record { fits = more-fits _ _ _ (c .before .before .before .before .before .before .before .before .before .before .before .pre .0) (c .before .before .before .before .before .before .before .before .before .before .before .pre .1) _ (c .before .before .before .before .before .before .before .read-header .ensures) _ (c .before .before .before .before .before .before .old-limit .ensures) _ (c .before .before .before .before .before .tally-points .ensures) }
+add-needed : tie.Need-add-needed
+add-needed c = record { fits = more-fits _ _ _ (c .before .before .before .before .before .before .before .before .before .before .before .pre .0) (c .before .before .before .before .before .before .before .before .before .before .before .pre .1) _ (c .before .before .before .before .before .before .before .read-header .ensures) _ (c .before .before .before .before .before .before .old-limit .ensures) _ (c .before .before .before .before .before .tally-points .ensures) }
+
+sub-needed : tie.Need-sub-needed
+sub-needed c = search needs
 
 count-old-requires : tie.Need-count-old-requires
 count-old-requires c κs = search needs
 
-sub-if2 : tie.Need-sub-if2
-sub-if2 c = old-within _ _ _ (c .before .before .before .before .before .before .before .before .before .before .before .before .pre .0) (c .before .before .before .before .before .before .before .before .before .before .before .before .pre .1) _ (c .before .before .before .before .before .before .before .before .read-header .ensures) _ (c .before .before .before .before .before .before .before .old-limit .ensures) _ (c .before .before .before .before .before .before .tally-points .ensures) _ (c .count-old .ensures)
-
 returns-2 : tie.Need-returns-2
-returns-2 c = after-drop _ _ _ (c .before .before .before .before .before .before .before .before .before .before .before .before .before .before .pre .0) (c .before .before .before .before .before .before .before .before .before .before .before .before .before .before .pre .1) _ (c .before .before .before .before .before .before .before .before .before .before .read-header .ensures) _ (c .before .before .before .before .before .before .before .before .before .old-limit .ensures) _ (c .before .before .before .before .before .before .before .before .tally-points .ensures) _ (c .before .before .count-old .ensures) (c .before .before .before .before .if1 .left) (c .if2 .taken)
+returns-2 c = after-drop _ _ _ (c .before .before .before .before .before .before .before .before .before .before .before .before .before .before .pre .0) (c .before .before .before .before .before .before .before .before .before .before .before .before .before .before .pre .1) _ (c .before .before .before .before .before .before .before .before .before .before .read-header .ensures) _ (c .before .before .before .before .before .before .before .before .before .old-limit .ensures) _ (c .before .before .before .before .before .before .before .before .tally-points .ensures) (c .before .before .before .before .if1 .left) _ (c .before .count-old .ensures) (omega (arith, c .if2 .taken))
 
 returns-3 : tie.Need-returns-3
-returns-3 c = too-little _ _ _ (c .before .before .before .before .before .before .before .before .before .before .before .before .before .before .pre .0) (c .before .before .before .before .before .before .before .before .before .before .before .before .before .before .pre .1) _ (c .before .before .before .before .before .before .before .before .before .before .read-header .ensures) _ (c .before .before .before .before .before .before .before .before .before .old-limit .ensures) _ (c .before .before .before .before .before .before .before .before .tally-points .ensures) _ (c .before .before .count-old .ensures) (c .before .before .before .before .if1 .left) (c .if2 .left)
+returns-3 c = too-little _ _ _ (c .before .before .before .before .before .before .before .before .before .before .before .before .before .before .pre .0) (c .before .before .before .before .before .before .before .before .before .before .before .before .before .before .pre .1) _ (c .before .before .before .before .before .before .before .before .before .before .read-header .ensures) _ (c .before .before .before .before .before .before .before .before .before .old-limit .ensures) _ (c .before .before .before .before .before .before .before .before .tally-points .ensures) (c .before .before .before .before .if1 .left) _ (c .before .count-old .ensures) (omega (arith, c .if2 .left))
 
 pub room-for-spec : {M : Type 1} → statement M
 room-for-spec =
@@ -43,8 +44,8 @@ room-for-spec =
     tally-points-requires
     add-all
     returns
-    add-if2
+    add-needed
+    sub-needed
     count-old-requires
-    sub-if2
     returns-2
     returns-3)
