@@ -1,8 +1,9 @@
 // Melding the whole records at the front of a part of a log.
 use crate::printing::print_line;
 use log::Cut;
-use log::cut;
 use meld::meld;
+use walker::part_at;
+use walker::step_at;
 ghost use Prim.Native.Nat.{_≤_};
 ghost use lib.ListN.{length};
 
@@ -17,12 +18,13 @@ fn meld_at(pool: &mut [u8], log: &[u8], place: usize, position: u64) -> usize
     requires { ⌜ place ≤ length (now log) ⌝ }
     ensures { λ r. ⌜ r ≤ length (now (log .entry)) ⌝ }
 {
-    let found = cut(log, place);
-    let Cut::Record(next) = found else {
+    let step = step_at(log, place);
+    let found = step.found;
+    let Cut::Record(_) = found else {
         return place;
     };
-    print_line(position, meld(pool, &log[place..next]));
-    next
+    print_line(position, meld(pool, part_at(log, place)));
+    step.place
 }
 
 // Melds the whole records at the front of a log's bytes, one after the other, and prints a line for each. The first has the position
