@@ -13,7 +13,7 @@ use Rattle.record.specs.Record.{kindOf, keyOf, payloadOf}
 use Rattle.rules.specs.Lists.{if_then_else_}
 use Rattle.rules.specs.State.{Entry, State}
 use Rattle.rules.specs.Verdict.{store, storeAll}
-use Rattle.rules.proofs.Written.{Sized}
+use Rattle.rules.specs.Sized.{Sized}
 use Rattle.pool.specs.Image.{Arrangement, Arranged, stateOf}
 use Rattle.put.specs.Storing.{putIn}
 use Rattle.put.proofs.Arranging.{Storable, state-put, arranged-put}

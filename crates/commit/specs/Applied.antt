@@ -10,7 +10,7 @@ use Rattle.record.specs.declared.point.Point.{Point}
 use Rattle.record.specs.declared.point.Point.the-variants.{Read, Put, Delete}
 use Rattle.rules.specs.Lists.{if_then_else_}
 use Rattle.rules.specs.State.{Entry}
-use Rattle.rules.proofs.Written.{Sized}
+use Rattle.rules.specs.Sized.{Sized}
 use Rattle.rules.specs.Footprint.{writesOf}
 use Rattle.rules.specs.Verdict.{storeAll}
 use Rattle.pool.specs.Image.{Arrangement, Image, stateOf}

@@ -7,7 +7,7 @@ use lib.ListN.{length}
 use Rattle.rules.specs.Lists.{keep}
 use Rattle.rules.specs.State.{Entry, lastPosition}
 use Rattle.rules.specs.Verdict.{storeAll}
-use Rattle.rules.proofs.Written.{Sized}
+use Rattle.rules.specs.Sized.{Sized}
 use Rattle.pool.specs.Image.{Arrangement, Image, stateOf}
 use Rattle.drop.specs.Old.{stays}
 use Rattle.drop.specs.Drop.{dropIn, onward}

@@ -16,7 +16,8 @@ use Rattle.rules.proofs.Sorted.{keep-rising}
 use Rattle.rules.proofs.Prune.{prune, prune-entries, prune-treeOf}
 use Rattle.pool.specs.Plan.{Plan}
 use Rattle.pool.specs.Image.{Arrangement, Arranged, treeOr, numbersOr, stateOf}
-use Rattle.pool.proofs.Numbers.{times, times-append, distinct-times, times-distinct, below-times, times-below}
+use Rattle.pool.specs.Times.{times}
+use Rattle.pool.proofs.Numbers.{times-append, distinct-times, times-distinct, below-times, times-below}
 use Rattle.drop.specs.Old.{old, stays}
 use Rattle.drop.specs.Drop.{dropTree, freedTree, dropIn, onward}
 use Rattle.drop.proofs.Olds.{keep-young, old-or-stays}

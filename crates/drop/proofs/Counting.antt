@@ -15,7 +15,8 @@ use Rattle.rules.specs.Tree.{entries, oldest}
 use Rattle.rules.proofs.Tests.{keep-append}
 use Rattle.pool.specs.Plan.{Plan, node, treeIn, number, numbers, rootNode, noNode}
 use Rattle.pool.specs.Image.{Arrangement, Image, Fit, stateOf, treeOr, rootOr}
-use Rattle.pool.proofs.Numbers.{times, times-append, below-mem}
+use Rattle.pool.specs.Times.{times}
+use Rattle.pool.proofs.Numbers.{times-append, below-mem}
 use Rattle.pool.proofs.Frame.{root-holds, root-in}
 use Rattle.drop.specs.Old.{old}
 use Rattle.drop.specs.Spot.{top, Stands, Standing, UpTo, Counted}

@@ -12,8 +12,10 @@ use Rattle.nodes.specs.Nodes.{base, putNode}
 use Rattle.nodes.specs.Laws.{bytes-node, node-fits}
 use Rattle.pool.specs.Plan.{Plan, node, number, numbers, noNode, freeNode}
 use Rattle.pool.specs.Image.{HoldsTree, numbersOr, rootOr}
-use Rattle.pool.proofs.Numbers.{times, times-same, times-below, mem-times}
-use Rattle.pool.proofs.Frame.{Frame, frame-put, frame-widen, frame-then, frame-node, root-in}
+use Rattle.pool.specs.Times.{times}
+use Rattle.pool.proofs.Numbers.{times-same, times-below, mem-times}
+use Rattle.pool.specs.Frame.{Frame}
+use Rattle.pool.proofs.Frame.{frame-put, frame-widen, frame-then, frame-node, root-in}
 use Rattle.drop.specs.Old.{old}
 use Rattle.drop.specs.Drop.{joinPlan, joinFree, dropPlan, freed}
 use Rattle.drop.specs.Spot.{mended, Spot, Dropped}

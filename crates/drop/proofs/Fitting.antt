@@ -11,7 +11,8 @@ use Rattle.rules.specs.Shape.{Canonical, none as nothing, one, two, on-left, on
 use Rattle.rules.proofs.Trees.{treeOf-canonical}
 use Rattle.pool.specs.Plan.{Plan, node, number, numbers}
 use Rattle.pool.specs.Image.{Arrangement, Arranged, Image, AllBelow, Distinct, HoldsTree, treeOr, numbersOr}
-use Rattle.pool.proofs.Numbers.{times, times-append, below-times, times-below}
+use Rattle.pool.specs.Times.{times}
+use Rattle.pool.proofs.Numbers.{times-append, below-times, times-below}
 use Rattle.drop.specs.Spot.{top, Falling, Stands, Spot}
 
 -- PARTS OF A LIST OF NUMBERS

@@ -12,7 +12,8 @@ use Rattle.rules.specs.Tree.{Tree, empty, join, oldest}
 use Rattle.rules.proofs.Prune.{prune}
 use Rattle.pool.specs.Plan.{Plan, leaf, node, treeIn, number, numbers}
 use Rattle.pool.specs.Image.{treeOr, numbersOr}
-use Rattle.pool.proofs.Numbers.{times, times-append, mem-times, times-mem}
+use Rattle.pool.specs.Times.{times}
+use Rattle.pool.proofs.Numbers.{times-append, mem-times, times-mem}
 use Rattle.drop.specs.Old.{old, stays}
 use Rattle.drop.specs.Drop.{joinPlan, joinFree, dropPlan, freed}
 use Rattle.drop.proofs.Olds.{leaf-young}

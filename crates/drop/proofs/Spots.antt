@@ -14,7 +14,8 @@ use Rattle.nodes.specs.Laws.{bytes-node}
 use Rattle.rules.specs.State.{Entry}
 use Rattle.pool.specs.Plan.{Plan, leaf, node, number, numbers, noNode, freeNode}
 use Rattle.pool.specs.Image.{AllBelow, HoldsTree, HoldsFree, firstOf, rootOr}
-use Rattle.pool.proofs.Numbers.{times, times-append, times-same, distinct-times, times-distinct, below-times, times-below, mem-times, below-mem}
+use Rattle.pool.specs.Times.{times}
+use Rattle.pool.proofs.Numbers.{times-append, times-same, distinct-times, times-distinct, below-times, times-below, mem-times, below-mem}
 use Rattle.pool.proofs.Frame.{frame-none, frame-put, frame-widen, frame-node, holds-frame}
 use Rattle.drop.specs.Old.{old}
 use Rattle.drop.specs.Drop.{dropPlan, freed}

@@ -10,7 +10,7 @@ use Rattle.rules.specs.Tree.{Tree, empty, entries}
 use Rattle.rules.specs.Lists.{keep}
 use Rattle.pool.specs.Plan.{Plan, treeIn, number, numbers, innerNode, freeNode}
 use Rattle.pool.specs.Image.{Distinct, AllBelow, Holds, HoldsTree, HoldsFree, firstOf, rootOr}
-use Rattle.pool.proofs.Frame.{Frame}
+use Rattle.pool.specs.Frame.{Frame}
 use Rattle.drop.specs.Old.{old}
 use Rattle.drop.specs.Drop.{dropPlan, freed}
 

@@ -16,7 +16,8 @@ use Rattle.rules.specs.State.{Entry, State, lastPosition}
 use Rattle.rules.specs.Footprint.{writesOf}
 use Rattle.rules.specs.Verdict.{Verdict, committed, conflict, tooOld, noRoom, malformed, ahead, usedUp, storeAll, young, whole, lean, count, apply, conflicts, judge, formed, verdict, pointsOf, step, left, next}
 use Rattle.rules.proofs.Stored.{writes-at}
-use Rattle.rules.proofs.Written.{Sized, ValidIf, record-sized}
+use Rattle.rules.specs.Sized.{Sized}
+use Rattle.rules.proofs.Written.{ValidIf, record-sized}
 use Rattle.pool.specs.Image.{Arrangement, Arranged, stateOf}
 use Rattle.drop.specs.Drop.{dropIn, onward}
 use Rattle.drop.proofs.Arranging.{drop-arranged, drop-young, onward-arranged}

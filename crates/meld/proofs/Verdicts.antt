@@ -22,7 +22,8 @@ use Rattle.rules.specs.State.{Entry, State, lastPosition}
 use Rattle.rules.specs.Footprint.{reach, writesOf}
 use Rattle.rules.specs.Verdict.{Verdict, committed, conflict, tooOld, noRoom, malformed, ahead, usedUp, answerOf, storeAll, young, whole, count, verdict}
 use Rattle.rules.specs.Tree.{looksOf}
-use Rattle.rules.proofs.Written.{Sized, written-sized}
+use Rattle.rules.specs.Sized.{Sized}
+use Rattle.rules.proofs.Written.{written-sized}
 use Rattle.pool.specs.Image.{Arrangement, Image, Fit, stateOf}
 use Rattle.walk.specs.Sorted.{Sorted, footprint}
 use Rattle.walk.proofs.Reach.{sorted-valid, footprint-reach}

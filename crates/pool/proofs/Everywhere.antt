@@ -7,7 +7,8 @@ use native.Mathlib.Omega.{arith}
 use native.Mathlib.Decide.{decLt}
 use lib.ListN.{length}
 use Rattle.pool.specs.Image.{Distinct, AllBelow}
-use Rattle.pool.proofs.Numbers.{times, times-same, times-other, times-mem, distinct-times}
+use Rattle.pool.specs.Times.{times}
+use Rattle.pool.proofs.Numbers.{times-same, times-other, times-mem, distinct-times}
 
 -- how often the numbers below n stand in a list, all together
 total : ℕ → List ℕ → ℕ

@@ -1,26 +1,18 @@
 -- What a pool holds depends only on the bytes of the nodes concerned: bytes that agree there hold the same tree and the same free nodes.
 -- Assumes nothing.
-use Prim.Native.Nat.{ℕ, zero, suc, _+_, _*_, _≤_, _<_}
-use mathlib.Core.Path.{_≡_, refl, sym, ap, _∙_, subst}
-use mathlib.Core.Logic.{_⊎_, inl, inr, ⊎-elim, _≢_}
-use mathlib.Core.List.{List, [], _∷_, _++_, List·Memᴰ as Mem, List·Memᴰ·head as here, List·Memᴰ·tail as there, Memᴰ·append-left as in-left, Memᴰ·append-right as in-right}
+use Prim.Native.Nat.{ℕ, _+_, _≤_, _<_}
+use mathlib.Core.Path.{_≡_, refl, _∙_}
+use mathlib.Core.Logic.{inl, inr, _≢_}
+use mathlib.Core.List.{List, [], _∷_, List·Memᴰ as Mem, List·Memᴰ·head as here, List·Memᴰ·tail as there, Memᴰ·append-left as in-left, Memᴰ·append-right as in-right}
 use native.Mathlib.Omega.{arith}
 use native.Mathlib.Decide.{decLt}
-use lib.ListN.{length, getD}
+use lib.ListN.{getD}
 use Rattle.nodes.specs.declared.node.Node.{Node}
-use Rattle.nodes.specs.Nodes.{base, nodeAt, putNode, headerAt, putHeader}
-use Rattle.nodes.specs.Laws.{length-node, byte-node, node-same, length-header, byte-header}
-use Rattle.pool.specs.Plan.{Plan, leaf, node, numbers, number, rootNode, freeNode}
-use Rattle.pool.specs.Image.{Holds, HoldsFree, firstOf}
-
--- byte k is none of node j's
-abbrev pub Clear : ℕ → ℕ → Type 0
-Clear k j = (k < base j) ⊎ (base j + 32 ≤ k)
-
--- m′ is m but for the nodes of S: the header is kept too
-pub record Frame (m m′ : List ℕ) (S : ℕ → Type 0) : Type 0 where
-  pub length-kept : length m′ ≡ length m
-  pub kept : (k : ℕ) → ((j : ℕ) → S j → Clear k j) → getD m′ k 0 ≡ getD m k 0
+use Rattle.nodes.specs.Nodes.{base, nodeAt, putNode, headerAt}
+use Rattle.nodes.specs.Laws.{length-node, byte-node, node-same}
+use Rattle.pool.specs.Frame.{Clear, Frame}
+use Rattle.pool.specs.Plan.{Plan, leaf, node, numbers, number, rootNode}
+use Rattle.pool.specs.Image.{Holds, HoldsFree}
 
 pub clear : (i j k : ℕ) → i ≢ j → base j ≤ k → k < base j + 32 → Clear k i
 clear i j k d p q = elim (decLt i j) [ yes l ↦ inr (omega arith) | no g ↦ inl (omega arith) ]

@@ -2,24 +2,15 @@
 -- are facts of counts, and counts of joined lists add up.
 -- Assumes nothing.
 use Prim.Native.Nat.{ℕ, zero, suc, _+_, _≤_, _<_}
-use mathlib.Core.Path.{_≡_, refl, sym, ap, _∙_, subst}
-use mathlib.Core.Logic.{_⊎_, inl, inr, _≢_}
+use mathlib.Core.Path.{_≡_, refl, ap, subst}
+use mathlib.Core.Logic.{_≢_}
 use mathlib.Core.Bool.{Bool, true, false}
 use mathlib.Core.List.{List, [], _∷_, _++_, List·Memᴰ as Mem, List·Memᴰ·head as here, List·Memᴰ·tail as there}
 use native.Mathlib.Omega.{arith}
-use lib.ListN.{length}
 use lib.Dec.{eqb}
-use borrow.Author.Tests.{eq-eqb, ne-eqb, eqb-true, eqb-false}
+use borrow.Author.Tests.{eq-eqb, ne-eqb, eqb-true}
+use Rattle.pool.specs.Times.{bit, times}
 use Rattle.pool.specs.Image.{Distinct, AllBelow}
-
-abbrev pub bit : Bool → ℕ
-bit true = 1
-bit false = 0
-
--- how often i stands in a list
-unfoldable pub times : ℕ → List ℕ → ℕ
-times i [] = 0
-times i (j ∷ js) = bit (eqb i j) + times i js
 
 pub times-append : (i : ℕ) (xs ys : List ℕ) → times i (xs ++ ys) ≡ times i xs + times i ys
 unfolding times

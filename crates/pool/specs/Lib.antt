@@ -1,3 +1,5 @@
 pub mod Plan
 pub mod Image
 pub mod Subtree
+pub mod Frame
+pub mod Times

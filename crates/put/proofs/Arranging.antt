@@ -21,7 +21,8 @@ use Rattle.rules.proofs.Stored.{store-mem}
 use Rattle.rules.proofs.Insert.{Stored, insert-stored}
 use Rattle.pool.specs.Plan.{Plan, treeIn, numbers}
 use Rattle.pool.specs.Image.{Arrangement, Arranged, treeOr, numbersOr, stateOf, firstOf}
-use Rattle.pool.proofs.Numbers.{times, times-append, distinct-times, times-distinct, below-times, times-below}
+use Rattle.pool.specs.Times.{times}
+use Rattle.pool.proofs.Numbers.{times-append, distinct-times, times-distinct, below-times, times-below}
 use Rattle.put.specs.Storing.{has, putPlan, restOf, treeAfter, freeAfter, putIn}
 use Rattle.put.proofs.Counts.{taken, times-put, node-count, length-put}
 use Rattle.put.proofs.Shape.{Aligned, treeIn-put}

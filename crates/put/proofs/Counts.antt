@@ -12,7 +12,8 @@ use Rattle.rules.specs.Lists.{if_then_else_}
 use Rattle.rules.specs.State.{Entry}
 use Rattle.rules.specs.Tree.{entries}
 use Rattle.pool.specs.Plan.{Plan, leaf, node, treeIn, number, numbers}
-use Rattle.pool.proofs.Numbers.{times, times-append}
+use Rattle.pool.specs.Times.{times}
+use Rattle.pool.proofs.Numbers.{times-append}
 use Rattle.put.specs.Storing.{covered, lowOf, has, beside, putPlan}
 
 -- the nodes that a new key takes

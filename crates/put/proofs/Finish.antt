@@ -15,8 +15,10 @@ use Rattle.rules.specs.Lists.{if_then_else_}
 use Rattle.rules.specs.State.{Entry, Fits, lastPosition}
 use Rattle.pool.specs.Plan.{Plan, leaf, node, numbers, leafNode}
 use Rattle.pool.specs.Image.{Arrangement, Arranged, Image, Holds, HoldsTree, HoldsFree, AllBelow, firstOf, headerOf, stateOf, rootOr, numbersOr}
-use Rattle.pool.proofs.Numbers.{times, times-append, times-mem, mem-times, distinct-times, below-mem}
-use Rattle.pool.proofs.Frame.{Frame, frame-node, frame-front, holds-frame, free-frame}
+use Rattle.pool.specs.Times.{times}
+use Rattle.pool.proofs.Numbers.{times-append, times-mem, mem-times, distinct-times, below-mem}
+use Rattle.pool.specs.Frame.{Frame}
+use Rattle.pool.proofs.Frame.{frame-node, frame-front, holds-frame, free-frame}
 use Rattle.put.specs.declared.value.Value.{Value}
 use Rattle.put.specs.Values.{payloadOf, entryOf}
 use Rattle.put.specs.Storing.{has, restOf, treeAfter, freeAfter, putIn}

@@ -16,7 +16,8 @@ use Rattle.rules.specs.Lists.{if_then_else_}
 use Rattle.rules.specs.State.{Entry}
 use Rattle.pool.specs.Plan.{Plan, leaf, node, number, numbers, rootNode}
 use Rattle.pool.specs.Image.{Holds}
-use Rattle.pool.proofs.Numbers.{bit, times, times-append, times-same, mem-times}
+use Rattle.pool.specs.Times.{bit, times}
+use Rattle.pool.proofs.Numbers.{times-append, times-same, mem-times}
 use Rattle.pool.proofs.Frame.{frame-put, frame-widen, frame-then, holds-frame, root-holds, root-in}
 use Rattle.put.specs.Storing.{covered, lowOf, has, beside, putPlan}
 use Rattle.put.specs.Writes.{forkNode, splitMem}

@@ -15,8 +15,10 @@ use Rattle.rules.specs.State.{Entry}
 use Rattle.rules.specs.Tree.{newest, oldest}
 use Rattle.pool.specs.Plan.{Plan, node, treeIn, number, numbers, innerNode, rootNode}
 use Rattle.pool.specs.Image.{Holds}
-use Rattle.pool.proofs.Numbers.{bit, times, mem-times}
-use Rattle.pool.proofs.Frame.{Frame, frame-put, frame-widen, frame-then, frame-node, holds-frame, root-holds}
+use Rattle.pool.specs.Times.{bit, times}
+use Rattle.pool.proofs.Numbers.{mem-times}
+use Rattle.pool.specs.Frame.{Frame}
+use Rattle.pool.proofs.Frame.{frame-put, frame-widen, frame-then, frame-node, holds-frame, root-holds}
 use Rattle.put.specs.declared.tree.Rooted.{Rooted}
 use Rattle.put.specs.Storing.{covered, has, putPlan}
 use Rattle.put.specs.Writes.{hookMem}

@@ -16,7 +16,7 @@ use Rattle.rules.specs.State.{Entry}
 use Rattle.rules.specs.Tree.{entries}
 use Rattle.pool.specs.Plan.{Plan, leaf, node, treeIn, number, numbers, leafNode, noNode}
 use Rattle.pool.specs.Image.{Arrangement, Image, AllBelow, numbersOr, firstOf, headerOf}
-use Rattle.pool.proofs.Numbers.{times}
+use Rattle.pool.specs.Times.{times}
 use Rattle.pool.proofs.Frame.{frame-put, frame-widen, frame-header}
 use Rattle.put.specs.declared.tree.Rooted.{Rooted}
 use Rattle.put.specs.declared.value.Value.{Value}

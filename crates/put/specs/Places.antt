@@ -12,8 +12,8 @@ use Rattle.nodes.specs.Laws.{NodeFits}
 use Rattle.rules.specs.State.{Entry}
 use Rattle.pool.specs.Plan.{Plan, leaf, node, number, numbers, leafNode}
 use Rattle.pool.specs.Image.{Holds}
-use Rattle.pool.proofs.Numbers.{times}
-use Rattle.pool.proofs.Frame.{Frame}
+use Rattle.pool.specs.Times.{times}
+use Rattle.pool.specs.Frame.{Frame}
 use Rattle.put.specs.declared.tree.Rooted.{Rooted}
 use Rattle.put.specs.Storing.{has, putPlan}
 

@@ -20,7 +20,8 @@ use Rattle.rules.specs.Demands.{lastWrite}
 use Rattle.rules.proofs.Tests.{if-ind, is-true, is-false, test, keep-mem}
 use Rattle.rules.proofs.Sorted.{keep-rising, storeAll-rising}
 use Rattle.rules.proofs.Finding.{find-none, find-mem, find-of, find-storeAll, lastWrite-append, lastWrite-cases}
-use Rattle.rules.proofs.Written.{Sized, record-sized}
+use Rattle.rules.specs.Sized.{Sized}
+use Rattle.rules.proofs.Written.{record-sized}
 
 -- what is seen after more writes goes by what was seen before them
 seen-after : (k : ℕ) (o o′ : Option Entry) (ws : List Entry) → seen o ≡ seen o′ → seen (lastWrite k o ws) ≡ seen (lastWrite k o′ ws)

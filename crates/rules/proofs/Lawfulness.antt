@@ -18,7 +18,8 @@ use Rattle.rules.specs.Log.{Log, WellFormed, after}
 use Rattle.rules.proofs.Tests.{if-ind, no-lt}
 use Rattle.rules.proofs.Stored.{writes-at, apply-mem}
 use Rattle.rules.proofs.Sorted.{keep-rising, storeAll-rising}
-use Rattle.rules.proofs.Written.{Sized, ValidIf, record-sized}
+use Rattle.rules.specs.Sized.{Sized}
+use Rattle.rules.proofs.Written.{ValidIf, record-sized}
 
 -- "A new pool has p = 0 and no keys"
 pub lawful-fresh : {N Z : ℕ} → (1 ≤ N) × (N ≤ 65536) → (1 ≤ Z) × (Z ≤ 4096) → Lawful (fresh N Z)

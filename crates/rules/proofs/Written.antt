@@ -1,6 +1,6 @@
 -- What a well-formed record writes: keys of 32 bits that rise, and payloads of eight bytes.
 -- Assumes nothing.
-use Prim.Native.Nat.{ℕ, _+_, _^_, _≤_, _<_}
+use Prim.Native.Nat.{ℕ, _+_, _^_, _≤_}
 use native.Mathlib.Omega.{arith}
 use mathlib.Core.Path.{_≡_, refl, sym, subst}
 use mathlib.Core.List.{List, [], _∷_, List·Memᴰ as Mem, List·Memᴰ·head as here, List·Memᴰ·tail as there}
@@ -8,14 +8,11 @@ use mathlib.Core.Option.{Option, none, some}
 use Rattle.record.specs.Record.{Rec, Valid, Rising as PointsRise}
 use Rattle.record.specs.declared.point.Point.{Point}
 use Rattle.record.specs.declared.point.Point.the-variants.{Read, Put, Delete}
-use Rattle.rules.specs.State.{Entry, Rising, end, link, Fits}
+use Rattle.rules.specs.Sized.{Sized}
+use Rattle.rules.specs.State.{Entry, Rising, end, link}
 use Rattle.rules.specs.Footprint.{writesOf}
 use Rattle.rules.specs.Verdict.{pointsOf}
 use Rattle.rules.proofs.Sorted.{rising-lower}
-
--- an entry whose key and payload fit their bytes
-abbrev pub Sized : Entry → Type 0
-Sized e = (e .key < 2 ^ 32) × Fits (e .payload)
 
 -- what is written fits its bytes
 pub written-sized : (v low : ℕ) (ps : List Point) → PointsRise low ps → (e : Entry) → Mem e (writesOf v ps) → Sized e

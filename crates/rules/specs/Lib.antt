@@ -10,3 +10,4 @@ pub mod Refresh
 pub mod Demands
 pub mod Outcome
 pub mod Table
+pub mod Sized
