@@ -1,0 +1,66 @@
+/* The program of document 01 in C, over the library: N and Z, four bytes each, big-endian, and a log on standard input; a line for each record with
+   position, answer and looks, then `end` or `10`; only `9` for bad limits, N above 1,000 or fewer than eight bytes. */
+#include <stdio.h>
+#include <stdlib.h>
+
+#include "emuparasol.h"
+
+enum { MOST_N = 1000, HEAD = 8, CHUNK = 65536 };
+
+static uint8_t pool[EMUPARASOL_POOL_BYTES(MOST_N)];
+
+/* Four bytes, big-endian. */
+static uint32_t word_at(const uint8_t *bytes) {
+    return (uint32_t)bytes[0] << 24 | (uint32_t)bytes[1] << 16 | (uint32_t)bytes[2] << 8 | bytes[3];
+}
+
+/* All of standard input; its length is left in *length. NULL if there is no memory for it. */
+static uint8_t *read_all(size_t *length) {
+    uint8_t *bytes = NULL;
+    *length = 0;
+    for (;;) {
+        uint8_t *larger = realloc(bytes, *length + CHUNK);
+        if (larger == NULL) {
+            free(bytes);
+            return NULL;
+        }
+        bytes = larger;
+        size_t got = fread(bytes + *length, 1, CHUNK, stdin);
+        if (got == 0)
+            return bytes;
+        *length += got;
+    }
+}
+
+/* Melds every record of the log into the pool, and prints a line for each and one for the ending. */
+static void meld_log(size_t pool_length, const uint8_t *log, size_t log_length) {
+    size_t place = 0, next;
+    unsigned long position = 1;
+    while (emuparasol_cut(log, log_length, place, &next) == EMUPARASOL_COMMITTED && next > place) {
+        uint32_t looks;
+        unsigned answer = emuparasol_meld(pool, pool_length, log + place, next - place, &looks);
+        printf("%lu %u %lu\n", position, answer, (unsigned long)looks);
+        place = next;
+        position++;
+    }
+    if (place == log_length)
+        printf("end\n");
+    else
+        printf("%d\n", EMUPARASOL_BROKEN_LOG);
+}
+
+int main(void) {
+    size_t length;
+    uint8_t *input = read_all(&length);
+    if (input == NULL)
+        return 1;
+    uint32_t n = length < HEAD ? 0 : word_at(input), z = length < HEAD ? 0 : word_at(input + 4);
+    size_t pool_length = n > MOST_N ? 0 : EMUPARASOL_POOL_BYTES(n);
+    unsigned answer = emuparasol_create(pool, pool_length, n, z);
+    if (answer == EMUPARASOL_COMMITTED)
+        meld_log(pool_length, input + HEAD, length - HEAD);
+    else
+        printf("%u\n", answer);
+    free(input);
+    return 0;
+}

@@ -1,0 +1,140 @@
+//! The nine calls with slices and references, straight into the linked archive.
+//! A slice of Rust is never null, a `&mut` overlaps nothing, and that is all the
+//! archive asks (see the head of `include/emuparasol.h`), so each call is sound.
+#![allow(unsafe_code)]
+
+use crate::declared::*;
+
+/// See `emuparasol_create`.
+pub fn create(pool: &mut [u8], n: u32, z: u32) -> u8 {
+    unsafe { emuparasol_create(pool.as_mut_ptr(), pool.len(), n, z) }
+}
+
+/// See `emuparasol_lookup`.
+pub fn lookup(pool: &[u8], key: u32, payload: &mut u64, position: &mut u32) -> u8 {
+    unsafe { emuparasol_lookup(pool.as_ptr(), pool.len(), key, payload, position) }
+}
+
+/// See `emuparasol_meld`.
+pub fn meld(pool: &mut [u8], record: &[u8], looks: &mut u32) -> u8 {
+    unsafe {
+        emuparasol_meld(
+            pool.as_mut_ptr(),
+            pool.len(),
+            record.as_ptr(),
+            record.len(),
+            looks,
+        )
+    }
+}
+
+/// See `emuparasol_refresh`.
+pub fn refresh(pool: &[u8], original: &[u8], output: &mut [u8]) -> u8 {
+    unsafe {
+        emuparasol_refresh(
+            pool.as_ptr(),
+            pool.len(),
+            original.as_ptr(),
+            original.len(),
+            output.as_mut_ptr(),
+            output.len(),
+        )
+    }
+}
+
+/// See `emuparasol_in_force`.
+pub fn in_force(
+    answer: u8,
+    original: &[u8],
+    refreshed: &[u8],
+    offset: &mut usize,
+    length: &mut usize,
+) -> bool {
+    unsafe {
+        emuparasol_in_force(
+            answer,
+            original.as_ptr(),
+            original.len(),
+            refreshed.as_ptr(),
+            refreshed.len(),
+            offset,
+            length,
+        )
+    }
+}
+
+/// See `emuparasol_check`.
+pub fn check(record: &[u8]) -> u8 {
+    unsafe { emuparasol_check(record.as_ptr(), record.len()) }
+}
+
+/// See `emuparasol_read`.
+#[allow(clippy::too_many_arguments)]
+pub fn read(
+    record: &[u8],
+    kinds: &mut [u8],
+    keys: &mut [u32],
+    payloads: &mut [u64],
+    lows: &mut [u32],
+    highs: &mut [u32],
+    snapshot: &mut u32,
+    points: &mut usize,
+    scans: &mut usize,
+) -> u8 {
+    unsafe {
+        emuparasol_read(
+            record.as_ptr(),
+            record.len(),
+            kinds.as_mut_ptr(),
+            kinds.len(),
+            keys.as_mut_ptr(),
+            keys.len(),
+            payloads.as_mut_ptr(),
+            payloads.len(),
+            lows.as_mut_ptr(),
+            lows.len(),
+            highs.as_mut_ptr(),
+            highs.len(),
+            snapshot,
+            points,
+            scans,
+        )
+    }
+}
+
+/// See `emuparasol_write`.
+#[allow(clippy::too_many_arguments)]
+pub fn write(
+    snapshot: u32,
+    kinds: &[u8],
+    keys: &[u32],
+    payloads: &[u64],
+    lows: &[u32],
+    highs: &[u32],
+    output: &mut [u8],
+    size: &mut usize,
+) -> u8 {
+    unsafe {
+        emuparasol_write(
+            snapshot,
+            kinds.as_ptr(),
+            kinds.len(),
+            keys.as_ptr(),
+            keys.len(),
+            payloads.as_ptr(),
+            payloads.len(),
+            lows.as_ptr(),
+            lows.len(),
+            highs.as_ptr(),
+            highs.len(),
+            output.as_mut_ptr(),
+            output.len(),
+            size,
+        )
+    }
+}
+
+/// See `emuparasol_cut`.
+pub fn cut(log: &[u8], place: usize, next: &mut usize) -> u8 {
+    unsafe { emuparasol_cut(log.as_ptr(), log.len(), place, next) }
+}

@@ -1,0 +1,80 @@
+//! The answers: a name and a number each.
+
+use crate::{between, without_comments};
+
+/// An answer's name, as in the proved source, and its number.
+#[derive(Clone, Debug, PartialEq, Eq)]
+pub struct Answer {
+    /// Words in capitals, joined by `_`.
+    pub name: String,
+    /// The number of document 01's table.
+    pub number: u8,
+}
+
+/// The associated constants of the Rattle answer type.
+pub fn of_rattle(text: &str) -> Result<Vec<Answer>, String> {
+    let text = without_comments(text);
+    let parts = text.split("pub const ").skip(1);
+    parts
+        .map(|part| {
+            let (name, rest) = part.split_once(':').ok_or(part)?;
+            let number = between(rest, "{ number: ", " }").ok_or(part)?;
+            answer(name, number)
+        })
+        .collect()
+}
+
+/// The constants of the header's `enum emuparasol_answer`, without their prefix.
+pub fn of_c(text: &str) -> Result<Vec<Answer>, String> {
+    let text = without_comments(text);
+    let block = between(&text, "enum emuparasol_answer {", "}").ok_or("no emuparasol_answer")?;
+    listed(block, |name| {
+        name.strip_prefix("EMUPARASOL_").map(str::to_string)
+    })
+}
+
+/// The cases of the Rust enum, their words in capitals.
+pub fn of_rust(text: &str) -> Result<Vec<Answer>, String> {
+    let text = without_comments(text);
+    let block = between(&text, "pub enum Answer {", "}").ok_or("no enum Answer")?;
+    listed(block, |name| {
+        let mut words = String::new();
+        for letter in name.chars() {
+            if letter.is_ascii_uppercase() && !words.is_empty() {
+                words.push('_');
+            }
+            words.push(letter.to_ascii_uppercase());
+        }
+        Some(words)
+    })
+}
+
+/// A list of `NAME = NUMBER` with commas.
+fn listed(block: &str, named: impl Fn(&str) -> Option<String>) -> Result<Vec<Answer>, String> {
+    let items = block.split(',').filter(|item| !item.trim().is_empty());
+    items
+        .map(|item| {
+            let (name, number) = item.split_once('=').ok_or(item)?;
+            answer(&named(name.trim()).ok_or(item)?, number.trim())
+        })
+        .collect()
+}
+
+fn answer(name: &str, number: &str) -> Result<Answer, String> {
+    Ok(Answer {
+        name: name.trim().to_string(),
+        number: number.parse().map_err(|_| format!("{name}: {number}"))?,
+    })
+}
+
+/// Where two lists of answers differ, a line each.
+pub fn compare_answers(ours: &str, one: &[Answer], theirs: &str, other: &[Answer]) -> Vec<String> {
+    let mut found = Vec::new();
+    for (list, from, rest, to) in [(one, ours, other, theirs), (other, theirs, one, ours)] {
+        for answer in list.iter().filter(|&answer| !rest.contains(answer)) {
+            let Answer { name, number } = answer;
+            found.push(format!("{name} = {number}: in {from}, not in {to}"));
+        }
+    }
+    found
+}

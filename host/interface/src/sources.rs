@@ -1,0 +1,84 @@
+//! The files of a repository that say the interface.
+
+use std::fs;
+use std::path::Path;
+
+use crate::{answers, compare_answers, compare_functions, functions};
+
+/// The texts that have to agree.
+#[derive(Clone, Debug)]
+pub struct Sources {
+    /// Every file of `crates/abi/src`.
+    pub rattle: String,
+    /// `include/emuparasol.h`.
+    pub header: String,
+    /// `host/emuparasol/src/declared.rs`.
+    pub declared: String,
+    /// `crates/record/src/answer.rt`.
+    pub rattle_answers: String,
+    /// `host/emuparasol/src/answer.rs`.
+    pub rust_answers: String,
+}
+
+impl Sources {
+    /// The files of the repository at `top`.
+    pub fn read(top: &Path) -> Result<Sources, String> {
+        let text = |path: &str| {
+            fs::read_to_string(top.join(path)).map_err(|error| format!("{path}: {error}"))
+        };
+        Ok(Sources {
+            rattle: sources_below(&top.join("crates/abi/src"))?,
+            header: text("include/emuparasol.h")?,
+            declared: text("host/emuparasol/src/declared.rs")?,
+            rattle_answers: text("crates/record/src/answer.rt")?,
+            rust_answers: text("host/emuparasol/src/answer.rs")?,
+        })
+    }
+
+    /// Every difference, a line each; how many functions and answers there are.
+    pub fn differences(&self) -> Result<(Vec<String>, usize, usize), String> {
+        let rattle = functions::of_rattle(&self.rattle)?;
+        let header = functions::of_c(&self.header)?;
+        let declared = functions::of_rust(&self.declared)?;
+        let answers = answers::of_rattle(&self.rattle_answers)?;
+        let header_answers = answers::of_c(&self.header)?;
+        let rust_answers = answers::of_rust(&self.rust_answers)?;
+        let proved = "the proved source";
+        let mut found = compare_functions(proved, &rattle, "the header", &header);
+        found.extend(compare_functions(
+            proved,
+            &rattle,
+            "the Rust declarations",
+            &declared,
+        ));
+        found.extend(compare_answers(
+            proved,
+            &answers,
+            "the header",
+            &header_answers,
+        ));
+        found.extend(compare_answers(
+            proved,
+            &answers,
+            "the Rust enum",
+            &rust_answers,
+        ));
+        Ok((found, rattle.len(), answers.len()))
+    }
+}
+
+/// Every Rattle file of a folder, one behind the other.
+fn sources_below(folder: &Path) -> Result<String, String> {
+    let problem = |error: std::io::Error| format!("{}: {error}", folder.display());
+    let mut text = String::new();
+    for entry in fs::read_dir(folder).map_err(problem)? {
+        let path = entry.map_err(problem)?.path();
+        if path.is_dir() {
+            text += &sources_below(&path)?;
+        } else if path.extension().is_some_and(|it| it == "rt") {
+            text += &fs::read_to_string(&path).map_err(problem)?;
+            text.push('\n');
+        }
+    }
+    Ok(text)
+}

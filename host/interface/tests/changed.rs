@@ -1,0 +1,130 @@
+//! The committed files agree, and a change of any one of them is noticed.
+#![forbid(unsafe_code)]
+
+use std::path::Path;
+
+use interface::Sources;
+
+fn committed() -> Sources {
+    let top = Path::new(env!("CARGO_MANIFEST_DIR")).join("../..");
+    Sources::read(&top).expect("the files are there")
+}
+
+/// `from` stands in the text, and `to` in its place.
+fn change(text: &mut String, from: &str, to: &str) {
+    assert!(text.contains(from), "{from} is not there");
+    *text = text.replacen(from, to, 1);
+}
+
+/// Does the change make a difference that names `name`?
+fn noticed(name: &str, edit: impl FnOnce(&mut Sources)) {
+    let mut sources = committed();
+    edit(&mut sources);
+    let (found, _, _) = sources.differences().expect("known forms");
+    assert!(
+        found.iter().any(|line| line.starts_with(name)),
+        "{name}: {found:?}"
+    );
+}
+
+#[test]
+fn the_committed_files_agree() {
+    let (found, functions, answers) = committed().differences().expect("known forms");
+    assert_eq!(found, Vec::<String>::new());
+    assert_eq!((functions, answers), (9, 11));
+}
+
+#[test]
+fn a_changed_header_is_noticed() {
+    let edits = [
+        (
+            "emuparasol_create",
+            "uint32_t n, uint32_t z",
+            "uint32_t z, uint32_t n",
+        ),
+        (
+            "emuparasol_lookup",
+            "uint64_t *payload",
+            "uint32_t *payload",
+        ),
+        (
+            "emuparasol_meld",
+            "uint32_t *looks",
+            "const uint32_t *looks",
+        ),
+        (
+            "emuparasol_refresh",
+            "const uint8_t *original,",
+            "uint8_t *original,",
+        ),
+        (
+            "emuparasol_in_force",
+            "bool emuparasol_in_force",
+            "uint8_t emuparasol_in_force",
+        ),
+        (
+            "emuparasol_check",
+            "emuparasol_check(const uint8_t *record, size_t record_length)",
+            "emuparasol_check(const uint8_t *record)",
+        ),
+        ("emuparasol_cut", "size_t place, ", ""),
+        (
+            "emuparasol_write",
+            "emuparasol_write(",
+            "emuparasol_writes(",
+        ),
+    ];
+    for (name, from, to) in edits {
+        noticed(name, |sources| change(&mut sources.header, from, to));
+    }
+}
+
+#[test]
+fn changed_rust_declarations_are_noticed() {
+    let edits = [
+        ("emuparasol_create", "n: u32,", "n: u64,"),
+        ("emuparasol_meld", "looks: *mut u32", "steps: *mut u32"),
+        (
+            "emuparasol_check",
+            "pub fn emuparasol_check(",
+            "pub fn emuparasol_checks(",
+        ),
+    ];
+    for (name, from, to) in edits {
+        noticed(name, |sources| change(&mut sources.declared, from, to));
+    }
+}
+
+#[test]
+fn a_changed_proved_source_is_noticed() {
+    let edits = [
+        ("emuparasol_create", "n: u32, z: u32", "z: u32, n: u32"),
+        ("emuparasol_lookup", "key: u32", "key: u64"),
+        ("emuparasol_meld", "looks: &mut u32", "looks: &mut [u32]"),
+        ("emuparasol_meld", "record: &[u8]", "record: &mut [u8]"),
+        (
+            "emuparasol_check",
+            "fn emuparasol_check(",
+            "fn emuparasol_well_formed(",
+        ),
+    ];
+    for (name, from, to) in edits {
+        noticed(name, |sources| change(&mut sources.rattle, from, to));
+    }
+}
+
+#[test]
+fn changed_answers_are_noticed() {
+    noticed("TOO_OLD", |it| {
+        change(&mut it.header, "TOO_OLD = 2", "TOO_OLD = 3")
+    });
+    noticed("AHEAD", |it| {
+        change(&mut it.header, "EMUPARASOL_AHEAD", "EMUPARASOL_EARLY")
+    });
+    noticed("NO_ROOM", |it| {
+        change(&mut it.rust_answers, "NoRoom = 3", "Full = 3")
+    });
+    noticed("BROKEN_LOG", |it| {
+        change(&mut it.rattle_answers, "number: 10", "number: 11")
+    });
+}

@@ -1,0 +1,102 @@
+/* Emuparasol for C: one flash log, many cards, the same verdicts. docs/FIRMWARE.md says how a card uses these functions.
+
+   The same for all of them:
+   - A list or a buffer is lent as a pointer and the number of its elements. Bytes may stand at any address; numbers stand where their type may.
+   - No pointer may be NULL, also where the number of elements is 0. What is lent to be written (no const) may overlap nothing else that is
+     lent to the same call.
+   - Nothing else is asked: any bytes may be lent anywhere. A function reads and writes only what it is lent, keeps nothing between two calls,
+     takes no memory, and ends. Each one says what every lent byte is afterwards.
+   - Two calls at the same time are fine unless they share something that one of them writes. */
+#ifndef EMUPARASOL_H
+#define EMUPARASOL_H
+
+#include <stdbool.h>
+#include <stddef.h>
+#include <stdint.h>
+
+#ifdef __cplusplus
+extern "C" {
+#endif
+
+/* The answers, each number with its one name. */
+enum emuparasol_answer {
+    EMUPARASOL_COMMITTED = 0,         /* the writes are stored; for other functions than meld: done */
+    EMUPARASOL_CONFLICT = 1,          /* a key that the record names or scans was written since its snapshot */
+    EMUPARASOL_TOO_OLD = 2,           /* the snapshot is more than Z positions back */
+    EMUPARASOL_NO_ROOM = 3,           /* more than N keys would have to be kept */
+    EMUPARASOL_MALFORMED = 4,         /* the record, or the lists to be written, break a rule */
+    EMUPARASOL_AHEAD = 5,             /* the snapshot is past the pool's position */
+    EMUPARASOL_POSITIONS_USED_UP = 6, /* the pool is at position 4,294,967,295 */
+    EMUPARASOL_UNFIT_POOL = 7,        /* the bytes lent as a pool are none */
+    EMUPARASOL_OUTPUT_SHORT = 8,      /* less room lent than needed */
+    EMUPARASOL_BAD_LIMITS = 9,        /* N or Z outside its range, or a pool of another size */
+    EMUPARASOL_BROKEN_LOG = 10        /* the log does not go on with a whole record */
+};
+
+/* The kinds of a point. */
+enum emuparasol_kind {
+    EMUPARASOL_KIND_READ = 1,
+    EMUPARASOL_KIND_PUT = 2,
+    EMUPARASOL_KIND_DELETE = 3
+};
+
+/* The bytes of a pool for n keys. */
+#define EMUPARASOL_POOL_BYTES(n) ((size_t)64 + (size_t)64 * (size_t)(n))
+/* The bytes of the shortest and of the longest record, and the most points and scans in one. */
+#define EMUPARASOL_LEAST_RECORD 9
+#define EMUPARASOL_MOST_RECORD 905
+#define EMUPARASOL_MOST_POINTS 64
+#define EMUPARASOL_MOST_SCANS 8
+
+/* Makes the lent bytes a new pool, at position 0 and without keys, for at most n keys (1 to 65,536) and zones of at most z positions (1 to 4,096).
+   Answers 0: every byte of the pool is fixed by n and z. Answers 9 if n or z is outside its range or pool_length is not 64 + 64 n: the bytes are
+   as before. */
+uint8_t emuparasol_create(uint8_t *pool, size_t pool_length, uint32_t n, uint32_t z);
+
+/* What the pool keeps under a key. Answers 0: *position is the position of the last committed write, 1 or more, and *payload what it put there; or
+   both are 0, and the key is absent (never written, or deleted). Answers 7 for an unfit pool, with both 0. */
+uint8_t emuparasol_lookup(const uint8_t *pool, size_t pool_length, uint32_t key, uint64_t *payload, uint32_t *position);
+
+/* Decides the log's next record: the first that applies of 7, 6, 4, 5, 2, 1, 3 and 0. On 7 and 6 the pool is as before; on 4, 5, 2, 1 and 3 only its
+   position moves on by one; on 0 the record's writes are stored at that position too. *looks is the number of nodes that the search for a conflict
+   looked at, 0 on 7, 6, 4, 5 and 2. */
+uint8_t emuparasol_meld(uint8_t *pool, size_t pool_length, const uint8_t *record, size_t record_length, uint32_t *looks);
+
+/* Brings a record that has waited up to the pool's position: the first that applies of 7, 4, 5, 2, 1, 8 and 0. On 0 the front of the output is the
+   same record with the pool's position as its snapshot, and the rest of the output is as before; on any other answer all of it is. The room needed
+   is original_length. */
+uint8_t emuparasol_refresh(const uint8_t *pool, size_t pool_length, const uint8_t *original, size_t original_length, uint8_t *output,
+                           size_t output_length);
+
+/* The record to append after a refresh that gave this answer: *length bytes from *offset on, in refreshed if true is answered, else in original.
+   After 5 it is all of original; after 0 the record at the front of refreshed, if a log could begin with it; else *length is 0 and there is none.
+   *offset is always 0. */
+bool emuparasol_in_force(uint8_t answer, const uint8_t *original, size_t original_length, const uint8_t *refreshed, size_t refreshed_length,
+                         size_t *offset, size_t *length);
+
+/* Whether the lent bytes are exactly one well-formed record: 0, or 4. */
+uint8_t emuparasol_check(const uint8_t *record, size_t record_length);
+
+/* Takes a record apart. Answers 0: the fronts of the lists hold the kinds, keys and payloads of its *points points (payload 0 for a read or a delete)
+   and the low and high ends of its *scans scans, the rest of each list is as before, and *snapshot is its snapshot. Answers 4 for a malformed record,
+   then 8 if a list is too short: the lists are as before and *snapshot, *points and *scans are 0. Lists of 64 points and 8 scans are always enough. */
+uint8_t emuparasol_read(const uint8_t *record, size_t record_length, uint8_t *kinds, size_t kinds_length, uint32_t *keys, size_t keys_length,
+                        uint64_t *payloads, size_t payloads_length, uint32_t *lows, size_t lows_length, uint32_t *highs, size_t highs_length,
+                        uint32_t *snapshot, size_t *points, size_t *scans);
+
+/* Writes a record from lists: kinds, keys and payloads of equal length (payload 0 for a read or a delete), lows and highs of equal length. Answers 0:
+   the record is the first *size bytes of the output and the rest is as before. Answers 4 if the lists break a rule, then 8 if the output is shorter
+   than the record: the output is as before and *size is 0. */
+uint8_t emuparasol_write(uint32_t snapshot, const uint8_t *kinds, size_t kinds_length, const uint32_t *keys, size_t keys_length,
+                         const uint64_t *payloads, size_t payloads_length, const uint32_t *lows, size_t lows_length, const uint32_t *highs,
+                         size_t highs_length, uint8_t *output, size_t output_length, size_t *size);
+
+/* What stands at a place of a log. Answers 0 with *next above place: a record, up to *next; it need not be well formed. Answers 0 with *next equal to
+   place: the log ends exactly here. Answers 10 with *next equal to place: neither, or a place past the end. */
+uint8_t emuparasol_cut(const uint8_t *log, size_t log_length, size_t place, size_t *next);
+
+#ifdef __cplusplus
+}
+#endif
+
+#endif
