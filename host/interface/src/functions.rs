@@ -76,6 +76,7 @@ fn rust_function(
     flat: impl Fn(&str, &str) -> Result<Vec<Parameter>, String>,
 ) -> Result<Function, String> {
     let (name, rest) = head.split_once('(').ok_or(head)?;
+    let name = name.split('<').next().unwrap_or(name);
     let (list, rest) = rest.split_once(')').ok_or(head)?;
     let answer = rest.trim_start().strip_prefix("->").ok_or(head)?;
     let word = |c: char| !c.is_ascii_alphanumeric();
@@ -96,14 +97,18 @@ fn rust_function(
     })
 }
 
-/// A Rattle parameter as C sees it.
+/// A Rattle parameter as C sees it; a lifetime is nothing to C.
 fn flat_rattle(name: &str, kind: &str) -> Result<Vec<Parameter>, String> {
-    let (pointer, lent) = match kind.strip_prefix('&') {
-        None => return Ok(vec![parameter(name, number(kind)?)]),
-        Some(lent) => match lent.strip_prefix("mut ") {
-            Some(lent) => ("*mut", lent),
-            None => ("*const", lent),
-        },
+    let Some(lent) = kind.strip_prefix('&') else {
+        return Ok(vec![parameter(name, number(kind)?)]);
+    };
+    let lent = match lent.strip_prefix('\'') {
+        Some(timed) => timed.split_once(' ').ok_or(kind)?.1,
+        None => lent,
+    };
+    let (pointer, lent) = match lent.strip_prefix("mut ") {
+        Some(lent) => ("*mut", lent),
+        None => ("*const", lent),
     };
     let element = lent.strip_prefix('[').and_then(|it| it.strip_suffix(']'));
     let pointer = format!("{pointer} {}", number(element.unwrap_or(lent))?);

@@ -2,13 +2,14 @@
 //! that shares nothing with the proved one. Obvious before quick.
 //!
 //! From the bottom up: `answer`, `flaw`, `record`, `lists`, `log`, `tree`, `state`,
-//! `refresh`, `program`. `document` has the examples of document 01, `words`
+//! `refresh`, `program`; `layout` for the bytes of a pool. `document` has the examples of document 01, `words`
 //! puts inputs into words, `random` is for tests and for the tool that compares.
 #![forbid(unsafe_code)]
 
 pub mod answer;
 pub mod document;
 pub mod flaw;
+pub mod layout;
 pub mod lists;
 pub mod log;
 pub mod program;

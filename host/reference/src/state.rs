@@ -86,6 +86,23 @@ impl State {
         }
     }
 
+    /// The state of a pool that no log need have made: of each kept key the last
+    /// committed write is all that is known.
+    pub fn of_kept(limits: Limits, position: u32, kept: BTreeMap<u32, Kept>) -> State {
+        let writes = kept.iter().map(|(&key, kept)| Write {
+            position: kept.position,
+            key,
+        });
+        let mut committed: Vec<Write> = writes.collect();
+        committed.sort_by_key(|write| write.position);
+        State {
+            limits,
+            position,
+            kept,
+            committed,
+        }
+    }
+
     /// N and Z.
     pub fn limits(&self) -> Limits {
         self.limits
