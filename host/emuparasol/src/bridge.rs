@@ -279,3 +279,31 @@ pub fn cut(log: &[u8], place: usize, next: &mut usize) -> u8 {
     back.fill(from_mut(next));
     back.answer
 }
+
+#[cfg(test)]
+mod tests {
+    use super::*;
+
+    /// What the bridge sends back for a lent list that nobody wrote to.
+    fn untouched(list: &[u32]) -> Vec<u8> {
+        let mut bytes = vec![0];
+        bytes.extend([GUARD_BYTE; GUARD]);
+        list.iter().for_each(|&one| one.put(&mut bytes));
+        bytes.extend([GUARD_BYTE; GUARD]);
+        bytes
+    }
+
+    #[test]
+    fn every_byte_that_comes_back_counts() {
+        let list = [1, 2, 3];
+        let size = untouched(&list).len();
+        for place in 0..size {
+            let mut bytes = untouched(&list);
+            bytes[place] ^= u8::from(place > 0);
+            let (answer, at) = (0, 1);
+            let mut back = Back { answer, bytes, at };
+            let panic = std::panic::catch_unwind(move || back.same(&list));
+            assert_eq!(panic.is_err(), place > 0, "place {place}");
+        }
+    }
+}
