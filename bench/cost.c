@@ -1,141 +1,209 @@
-// One call of the library on a pool made before, so that its instructions can be counted: bench/count runs this twice, with the call and without.
-//   cost make N KEYS ZONE FILE            melds puts of KEYS random keys into a fresh pool, 64 a record, and saves the pool and the keys
-//   cost tombstone N KEYS ZONE FILE       the same, then deletes one of the keys and melds three empty records
-//   cost CALL N KEYS POINTS FILE [skip]   CALL is fit, kept (puts of kept keys), new (puts of other keys), read (reads of kept keys) or
-//                                         old (reads of other keys with half the position as snapshot); the others have the position as snapshot
-// The toolchain brings no C headers, so what is used of the C library is declared here.
-typedef unsigned char byte;
-typedef unsigned int word;
-typedef unsigned long size;
+/* One call, of the library or of the plain code, on a pool made before, so that its instructions can be counted: bench/count runs this twice, with
+   the call and without.
+     cost make N KEYS ZONE FILE              a pool with KEYS keys, put 64 a record
+     cost tombstones N KEYS ZONE FILE COUNT  the same, then COUNT of the keys deleted, and two empty records
+     cost comb N KEYS ZONE FILE              the same, then 72 numbers, then for each the 32 keys that differ from it in one bit
+     cost library|plain CALL N KEYS POINTS FILE [skip|stack|compare]
+   CALL is look (lookup of an absent key) or a meld of POINTS points: kept (puts of kept keys), new (puts of other keys), read (reads of kept keys),
+   old (reads of other keys, with half the position as snapshot), scans (POINTS scans between neighbouring kept keys, the same snapshot), fullest (64
+   reads and 8 scans of the 72 numbers, with the position before their combs as snapshot). The others have the position as snapshot. With skip the
+   call is left out; with stack the bytes of stack it used are printed; with compare both are called: same answer, looks and bytes, or status 4. */
+#include <stdio.h>
+#include <stdlib.h>
+#include <string.h>
 
-int printf(const char *, ...);
-int strcmp(const char *, const char *);
-int atoi(const char *);
-void *malloc(size);
-void *fopen(const char *, const char *);
-size fread(void *, size, size, void *);
-size fwrite(const void *, size, size, void *);
-int fclose(void *);
-void qsort(void *, size, size, int (*)(const void *, const void *));
+#include "emuparasol.h"
+#include "plain.h"
 
-byte bench_create(byte *pool, size length, word n, word z);
-_Bool bench_fit(const byte *pool, size length);
-byte bench_meld(byte *pool, size length, const byte *record, size record_length);
+enum { COMBS = 72, PAINTED = 65536, PAINT = 0xA7 };
 
-static size seed = 88172645463325252ul;
+/* Pool, and what the command line says of it. */
+static uint8_t *pool;
+static size_t length;
+static uint32_t n, keys;
 
-// xorshift64*: the same keys in every run.
-static word next_random(void) {
-    seed ^= seed << 13;
-    seed ^= seed >> 7;
-    seed ^= seed << 17;
-    return (word)(seed * 2685821657736338717ul);
+/* What is saved beside the pool: the position before the combs, and scans between neighbouring keys. */
+static struct {
+    uint32_t before_combs, lows[8], highs[8];
+} beside;
+
+static uint32_t word_at(const uint8_t *at) { return (uint32_t)at[0] << 24 | (uint32_t)at[1] << 16 | (uint32_t)at[2] << 8 | at[3]; }
+
+/* A permutation of all 32-bit numbers: keys look random, and no two are equal. */
+static uint32_t key_of(uint32_t i) {
+    i ^= i >> 16;
+    i *= 0x85EBCA6Bu;
+    i ^= i >> 13;
+    i *= 0xC2B2AE35u;
+    return i ^ i >> 16;
 }
 
-static void put_word(byte *at, word x) {
-    at[0] = x >> 24;
-    at[1] = x >> 16;
-    at[2] = x >> 8;
-    at[3] = x;
-}
-
-static word get_word(const byte *at) {
-    return (word)at[0] << 24 | (word)at[1] << 16 | (word)at[2] << 8 | at[3];
-}
+/* The numbers at which the combs stand: spread evenly, so that their paths part early. */
+static uint32_t comb(uint32_t i) { return i * (0xFFFFFFFFu / COMBS) + 0x00654321u; }
 
 static int by_value(const void *a, const void *b) {
-    word x = *(const word *)a, y = *(const word *)b;
+    uint32_t x = *(const uint32_t *)a, y = *(const uint32_t *)b;
     return x < y ? -1 : x > y;
 }
 
-// The bytes of a record of points of one kind; a key named twice is written once. Answers the record's length.
-static size record_of(byte *out, word snapshot, word *keys, int count, int kind) {
-    size at = 9;
-    int points = 0;
-    qsort(keys, count, 4, by_value);
-    for (int i = 0; i < count; i++) {
-        if (i && keys[i] == keys[i - 1])
-            continue;
-        out[at] = kind;
-        put_word(out + at + 1, keys[i]);
-        at += 5;
-        if (kind == 2) {
-            put_word(out + at, 0);
-            put_word(out + at + 4, keys[i]);
-            at += 8;
-        }
-        points++;
-    }
-    out[0] = (at - 2) >> 8;
-    out[1] = at - 2;
-    out[2] = 1;
-    put_word(out + 3, snapshot);
-    out[7] = points;
-    out[8] = 0;
-    return at;
+/* A record of points of one kind and of scans; ends the program if the lists break a rule. */
+static size_t record_of(uint8_t *out, uint32_t snapshot, uint32_t *named, size_t points, uint8_t kind, const uint32_t *lows, const uint32_t *highs,
+                        size_t scans) {
+    uint8_t kinds[64];
+    uint64_t payloads[64];
+    size_t size;
+    qsort(named, points, sizeof *named, by_value);
+    memset(kinds, kind, sizeof kinds);
+    for (size_t i = 0; i < points; i++)
+        payloads[i] = kind == EMUPARASOL_KIND_PUT ? named[i] : 0;
+    if (emuparasol_write(snapshot, kinds, points, named, points, payloads, points, lows, scans, highs, scans, out, EMUPARASOL_MOST_RECORD, &size))
+        exit(3);
+    return size;
 }
 
-static int meld_one(byte *pool, size length, word *keys, int count, int kind) {
-    byte record[905];
-    size l = record_of(record, get_word(pool + 12), keys, count, kind);
-    return bench_meld(pool, length, record, l);
+/* Melds one record of points at the pool's position, and expects it to commit. */
+static void meld_points(uint32_t *named, size_t points, uint8_t kind) {
+    uint8_t record[EMUPARASOL_MOST_RECORD];
+    uint32_t looks;
+    size_t size = record_of(record, word_at(pool + 12), named, points, kind, &n, &n, 0);
+    if (emuparasol_meld(pool, length, record, size, &looks))
+        exit(3);
 }
 
-static int make(int tombstone, word n, word count, word z, const char *file) {
-    size length = 64 + 64 * (size)n;
-    byte *pool = malloc(length);
-    word *keys = malloc(4 * (size)count);
-    word some[64];
-    if (bench_create(pool, length, n, z))
-        return 1;
-    for (word made = 0; made < count;) {
-        int part = count - made < 64 ? count - made : 64;
-        for (int i = 0; i < part; i++)
-            some[i] = keys[made + i] = next_random();
-        if (meld_one(pool, length, some, part, 2))
-            return 1;
-        made += part;
+/* Melds points for the first so many keys, 64 a record. */
+static void meld_first(uint32_t count, uint8_t kind) {
+    uint32_t some[64];
+    for (uint32_t done = 0; done < count;) {
+        uint32_t part = count - done < 64 ? count - done : 64;
+        for (uint32_t i = 0; i < part; i++)
+            some[i] = key_of(done + i);
+        meld_points(some, part, kind);
+        done += part;
     }
-    if (tombstone) {
-        some[0] = keys[count / 2];
-        if (meld_one(pool, length, some, 1, 3))
-            return 1;
-        for (int i = 0; i < 3; i++)
-            if (meld_one(pool, length, some, 0, 1))
-                return 1;
+}
+
+/* Eight scans, spread over the keys, each from behind a key to before the next. */
+static void find_scans(void) {
+    uint32_t *all = malloc(4 * (size_t)keys);
+    for (uint32_t i = 0; i < keys; i++)
+        all[i] = key_of(i);
+    qsort(all, keys, 4, by_value);
+    for (uint32_t i = 0; i < 8; i++) {
+        uint32_t at = (uint32_t)((uint64_t)keys * (2 * i + 1) / 16);
+        while (all[at + 1] - all[at] < 2)
+            at++;
+        beside.lows[i] = all[at] + 1;
+        beside.highs[i] = all[at + 1] - 1;
     }
-    void *f = fopen(file, "wb");
-    fwrite(pool, 1, length, f);
-    fwrite(keys, 4, count, f);
+    free(all);
+}
+
+static int make(const char *what, uint32_t zone, const char *file, uint32_t tombstones) {
+    uint32_t some[64];
+    bool combed = !strcmp(what, "comb");
+    if (emuparasol_create(pool, length, n, zone))
+        return 3;
+    meld_first(keys, EMUPARASOL_KIND_PUT);
+    for (uint32_t i = 0; combed && i < COMBS; i++) {
+        some[0] = comb(i);
+        meld_points(some, 1, EMUPARASOL_KIND_PUT);
+    }
+    beside.before_combs = word_at(pool + 12);
+    find_scans();
+    if (!strcmp(what, "tombstones")) {
+        meld_first(tombstones, EMUPARASOL_KIND_DELETE);
+        meld_points(some, 0, EMUPARASOL_KIND_READ);
+        meld_points(some, 0, EMUPARASOL_KIND_READ);
+    }
+    for (uint32_t i = 0; combed && i < COMBS; i++) {
+        for (uint32_t bit = 0; bit < 32; bit++)
+            some[bit] = comb(i) ^ (uint32_t)1 << bit;
+        meld_points(some, 32, EMUPARASOL_KIND_PUT);
+    }
+    FILE *f = fopen(file, "wb");
+    if (f == NULL || fwrite(pool, 1, length, f) != length || fwrite(&beside, sizeof beside, 1, f) != 1)
+        return 3;
     fclose(f);
-    printf("N %u, keys kept %u, position %u\n", n, get_word(pool + 16), get_word(pool + 12));
+    printf("%s: N %u, Z %u, keys kept %u, position %u\n", what, n, zone, word_at(pool + 16), word_at(pool + 12));
     return 0;
+}
+
+/* The record of a call. */
+static size_t prepare(const char *call, uint32_t points, uint8_t *record) {
+    uint32_t some[64], lows[8], highs[8], p = word_at(pool + 12);
+    if (!strcmp(call, "fullest")) {
+        for (uint32_t i = 0; i < 64; i++)
+            some[i] = comb(i);
+        for (uint32_t i = 0; i < 8; i++)
+            lows[i] = highs[i] = comb(64 + i);
+        return record_of(record, beside.before_combs, some, 64, EMUPARASOL_KIND_READ, lows, highs, 8);
+    }
+    if (!strcmp(call, "scans"))
+        return record_of(record, p / 2, some, 0, EMUPARASOL_KIND_READ, beside.lows, beside.highs, points);
+    bool other = !strcmp(call, "new") || !strcmp(call, "old"), reads = !strcmp(call, "read") || !strcmp(call, "old");
+    for (uint32_t i = 0; i < points; i++)
+        some[i] = other ? key_of(keys + 1 + 977 * i) : key_of((uint32_t)((uint64_t)keys * i / points));
+    return record_of(record, strcmp(call, "old") ? p : p / 2, some, points, reads ? EMUPARASOL_KIND_READ : EMUPARASOL_KIND_PUT, &n, &n, 0);
+}
+
+/* Makes the call; looks and answer on a look are what was found. */
+static uint8_t make_call(bool plain, bool look, const uint8_t *record, size_t size, uint32_t *looks) {
+    uint64_t payload;
+    if (look)
+        return (plain ? plain_lookup : emuparasol_lookup)(pool, length, key_of(keys + 1), &payload, looks);
+    return (plain ? plain_meld : emuparasol_meld)(pool, length, record, size, looks);
+}
+
+/* Paints the stack below its caller's, or answers how much of the paint is gone. */
+static __attribute__((noinline)) size_t stack(bool paint) {
+    volatile uint8_t *top = (volatile uint8_t *)__builtin_frame_address(0) - 64;
+    size_t left = 0;
+    for (size_t i = PAINTED; paint && i > 0; i--)
+        top[-(long)i] = PAINT;
+    while (left < PAINTED && top[(long)left - PAINTED] == PAINT)
+        left++;
+    return PAINTED - left + 64;
 }
 
 int main(int argc, char **argv) {
     if (argc < 6)
         return 2;
-    const char *call = argv[1], *file = argv[5];
-    word n = atoi(argv[2]), count = atoi(argv[3]), points = atoi(argv[4]);
-    if (!strcmp(call, "make") || !strcmp(call, "tombstone"))
-        return make(call[0] == 't', n, count, points, file);
-    size length = 64 + 64 * (size)n;
-    byte *pool = malloc(length);
-    word *keys = malloc(4 * (size)count);
-    word some[64];
-    byte record[905];
-    void *f = fopen(file, "rb");
-    if (!f || points > 64 || fread(pool, 1, length, f) != length || fread(keys, 4, count, f) != count)
+    const char *what = argv[1];
+    bool makes = !strcmp(what, "make") || !strcmp(what, "tombstones") || !strcmp(what, "comb"), plain = !strcmp(what, "plain");
+    char **numbers = argv + (makes ? 2 : 3);
+    n = (uint32_t)strtoul(numbers[0], NULL, 10);
+    keys = (uint32_t)strtoul(numbers[1], NULL, 10);
+    uint32_t third = (uint32_t)strtoul(numbers[2], NULL, 10);
+    const char *file = numbers[3], *call = argv[2], *more = argc > 7 ? argv[7] : "";
+    length = EMUPARASOL_POOL_BYTES(n);
+    pool = malloc(length);
+    if (makes)
+        return make(what, third, file, argc > 6 ? (uint32_t)strtoul(argv[6], NULL, 10) : 0);
+    FILE *f = fopen(file, "rb");
+    if (f == NULL || fread(pool, 1, length, f) != length || fread(&beside, sizeof beside, 1, f) != 1)
         return 2;
     fclose(f);
-    int old = !strcmp(call, "old"), other = old || !strcmp(call, "new"), kind = old || !strcmp(call, "read") ? 1 : 2;
-    seed = 3935559000370003845ul; // another sequence than the kept keys'
-    for (word i = 0; i < points; i++)
-        some[i] = other ? next_random() : keys[next_random() % count];
-    size l = record_of(record, get_word(pool + 12) >> old, some, points, kind);
-    int answer = 0;
-    if (argc == 6)
-        answer = call[0] == 'f' ? !bench_fit(pool, length) : bench_meld(pool, length, record, l);
-    printf("answer %d\n", answer);
+    uint8_t record[EMUPARASOL_MOST_RECORD];
+    bool look = !strcmp(call, "look");
+    size_t size = look ? 0 : prepare(call, third, record);
+    uint32_t looks = 0;
+    uint8_t answer = 0;
+    if (!strcmp(more, "stack")) {
+        stack(true);
+        answer = make_call(plain, look, record, size, &looks);
+        printf("%lu\n", (unsigned long)stack(false));
+    } else if (*more == '\0' && argc == 7) {
+        answer = make_call(plain, look, record, size, &looks);
+    } else if (!strcmp(more, "compare")) {
+        uint8_t *once = malloc(length);
+        uint32_t other_looks = 0;
+        memcpy(once, pool, length);
+        answer = make_call(false, look, record, size, &looks);
+        uint8_t *after = pool;
+        pool = once;
+        if (make_call(true, look, record, size, &other_looks) != answer || other_looks != looks || memcmp(after, once, length) != 0)
+            return 4;
+        printf("answer %u, looks %u, kept %u\n", answer, look ? 0 : looks, word_at(pool + 16));
+    }
     return answer;
 }

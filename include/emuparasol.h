@@ -77,9 +77,10 @@ bool emuparasol_in_force(uint8_t answer, const uint8_t *original, size_t origina
 /* Whether the lent bytes are exactly one well-formed record: 0, or 4. */
 uint8_t emuparasol_check(const uint8_t *record, size_t record_length);
 
-/* Takes a record apart. Answers 0: the fronts of the lists hold the kinds, keys and payloads of its *points points (payload 0 for a read or a delete)
-   and the low and high ends of its *scans scans, the rest of each list is as before, and *snapshot is its snapshot. Answers 4 for a malformed record,
-   then 8 if a list is too short: the lists are as before and *snapshot, *points and *scans are 0. Lists of 64 points and 8 scans are always enough. */
+/* Takes a record apart. Answers 0: the fronts of the lists hold the kinds, keys and payloads of its *points points (payload 0 for a read or a
+   delete) and the low and high ends of its *scans scans, the rest of each list is as before, and *snapshot is its snapshot. Answers 4 for a
+   malformed record, then 8 if a list is too short: the lists are as before and *snapshot, *points and *scans are 0. Lists of 64 points and 8 scans
+   are always enough. */
 uint8_t emuparasol_read(const uint8_t *record, size_t record_length, uint8_t *kinds, size_t kinds_length, uint32_t *keys, size_t keys_length,
                         uint64_t *payloads, size_t payloads_length, uint32_t *lows, size_t lows_length, uint32_t *highs, size_t highs_length,
                         uint32_t *snapshot, size_t *points, size_t *scans);

@@ -127,8 +127,8 @@ static uint8_t write(void) {
     const uint32_t *lows = lend(4, &lows_length), *highs = lend(4, &highs_length);
     uint8_t *output = lend(1, &output_length);
     size_t *size = lend(sizeof *size, &one);
-    return emuparasol_write(snapshot, kinds, kinds_length, keys, keys_length, payloads, payloads_length, lows, lows_length, highs, highs_length, output,
-                            output_length, size);
+    return emuparasol_write(snapshot, kinds, kinds_length, keys, keys_length, payloads, payloads_length, lows, lows_length, highs, highs_length,
+                            output, output_length, size);
 }
 
 static uint8_t cut(void) {

@@ -1,0 +1,352 @@
+/* What a C programmer would write for a card that trusts nobody either: one recursive pass for fitness, with whole words compared where they are
+   constant; the record's lists on the stack; descents without recursion; nothing done that the record does not need. */
+#include "plain.h"
+
+#include <string.h>
+
+enum { HEAD = 64, NODE = 32, MOST_POINTS = 64, MOST_SCANS = 8, DEEPEST = 33 };
+#define NONE 0xFFFFFFFFu
+
+/* The words of a node, and those of the header, by their offsets. */
+enum { HEIGHT = 0, LOW = 4, NEWEST = 8, OLDEST = 12, LEFT = 16, RIGHT = 20, KIND = 24, SPARE = 28 };
+enum { MARK = 0, LIMIT = 4, ZONE = 8, POSITION = 12, KEPT = 16, ROOT = 20, FREE = 24, REST = 28 };
+
+static inline uint32_t get(const uint8_t *at) {
+    uint32_t x;
+    memcpy(&x, at, 4);
+    return __builtin_bswap32(x);
+}
+
+static inline void set(uint8_t *at, uint32_t x) {
+    x = __builtin_bswap32(x);
+    memcpy(at, &x, 4);
+}
+
+static inline uint64_t get_two(const uint8_t *at) {
+    uint64_t x;
+    memcpy(&x, at, 8);
+    return __builtin_bswap64(x);
+}
+
+static inline uint8_t *node_at(const uint8_t *pool, uint32_t i) { return (uint8_t *)pool + HEAD + NODE * (size_t)i; }
+
+static inline uint32_t larger(uint32_t x, uint32_t y) { return x < y ? y : x; }
+static inline uint32_t smaller(uint32_t x, uint32_t y) { return x < y ? x : y; }
+
+/* What the fitness check carries along. */
+struct check {
+    const uint8_t *pool;
+    uint32_t nodes, position, leaves;
+};
+
+static __attribute__((noinline)) uint64_t inner_sums(struct check *c, const uint8_t *n, uint32_t height, uint32_t low);
+
+/* Newest (high half) and oldest of the tree at node i, which has to cover a part of the 2^top numbers from low on; 0 if it is no such tree. */
+static inline __attribute__((always_inline)) uint64_t sums(struct check *c, uint32_t i, uint32_t low, uint32_t top) {
+    if (i >= c->nodes)
+        return 0;
+    const uint8_t *n = node_at(c->pool, i);
+    uint32_t height = get(n + HEIGHT), own = get(n + LOW);
+    if (((uint64_t)(own ^ low) >> top) != 0)
+        return 0;
+    if (height > 0)
+        return height > top ? 0 : inner_sums(c, n, height, own);
+    uint64_t both = get_two(n + NEWEST), kind = get_two(n + KIND);
+    uint32_t newest = (uint32_t)(both >> 32), oldest = (uint32_t)both;
+    c->leaves++;
+    if (newest - 1 >= c->position)
+        return 0;
+    if (__builtin_expect(kind == (uint64_t)1 << 32, 1))
+        return oldest == NONE ? both : 0;
+    return kind == (uint64_t)2 << 32 && oldest == newest && get_two(n + LEFT) == 0 ? both : 0;
+}
+
+/* The same for an inner node; leaves take no call of their own. */
+static uint64_t inner_sums(struct check *c, const uint8_t *n, uint32_t height, uint32_t low) {
+    uint32_t half = (uint32_t)1 << (height - 1);
+    if (get_two(n + KIND) != 0 || (low & (half | (half - 1))) != 0)
+        return 0;
+    uint64_t left = sums(c, get(n + LEFT), low, height - 1);
+    if (left == 0)
+        return 0;
+    uint64_t right = sums(c, get(n + RIGHT), low | half, height - 1);
+    if (right == 0)
+        return 0;
+    uint64_t newest = (left > right ? left : right) >> 32, both = newest << 32 | smaller((uint32_t)left, (uint32_t)right);
+    return get_two(n + NEWEST) == both ? both : 0;
+}
+
+/* Whether from node i on there is a chain of exactly so many free nodes. */
+static bool free_fit(const uint8_t *pool, uint32_t nodes, uint32_t i, uint32_t count) {
+    for (uint32_t rank = count; rank > 0; rank--) {
+        if (i >= nodes)
+            return false;
+        const uint8_t *n = node_at(pool, i);
+        if (get(n + HEIGHT) != NONE || get(n + NEWEST) != rank || get(n + OLDEST) != 0 || (get_two(n + LEFT) | get_two(n + KIND)) != 0)
+            return false;
+        i = get(n + LOW);
+    }
+    return i == NONE;
+}
+
+static bool fits(const uint8_t *pool, size_t length) {
+    if (length < HEAD || get(pool + MARK) != 0x454D5031u)
+        return false;
+    uint32_t limit = get(pool + LIMIT), zone = get(pool + ZONE), kept = get(pool + KEPT), root = get(pool + ROOT);
+    if (limit - 1 >= 65536 || zone - 1 >= 4096 || length != HEAD + 64 * (size_t)limit || kept > limit)
+        return false;
+    for (int at = REST; at < HEAD; at += 4)
+        if (get(pool + at) != 0)
+            return false;
+    struct check c = {pool, 2 * limit, get(pool + POSITION), 0};
+    if (kept == 0 ? root != NONE : sums(&c, root, 0, 32) == 0)
+        return false;
+    return c.leaves == kept && free_fit(pool, 2 * limit, get(pool + FREE), kept == 0 ? 2 * limit : 2 * limit + 1 - 2 * kept);
+}
+
+/* Whether a node covers a key. */
+static inline bool covers(const uint8_t *n, uint32_t key) { return (((uint64_t)key ^ get(n + LOW)) >> get(n + HEIGHT)) == 0; }
+
+/* The leaf of a key, or NULL. */
+static uint8_t *leaf_of(const uint8_t *pool, uint32_t key) {
+    uint32_t i = get(pool + ROOT);
+    if (i == NONE)
+        return NULL;
+    for (;;) {
+        uint8_t *n = node_at(pool, i);
+        if (!covers(n, key))
+            return NULL;
+        uint32_t height = get(n + HEIGHT);
+        if (height == 0)
+            return n;
+        i = get(n + ((key >> (height - 1)) & 1 ? RIGHT : LEFT));
+    }
+}
+
+uint8_t plain_lookup(const uint8_t *pool, size_t pool_length, uint32_t key, uint64_t *payload, uint32_t *position) {
+    *payload = 0;
+    *position = 0;
+    if (!fits(pool, pool_length))
+        return 7;
+    const uint8_t *leaf = leaf_of(pool, key);
+    if (leaf != NULL && get(leaf + KIND) == 1) {
+        *payload = get_two(leaf + LEFT);
+        *position = get(leaf + NEWEST);
+    }
+    return 0;
+}
+
+/* A record's lists. */
+struct record {
+    uint32_t snapshot;
+    int points, scans;
+    uint8_t kinds[MOST_POINTS];
+    uint32_t keys[MOST_POINTS];
+    uint64_t payloads[MOST_POINTS];
+    uint32_t lows[MOST_SCANS], highs[MOST_SCANS];
+};
+
+static bool parse(const uint8_t *at, size_t length, struct record *r) {
+    if (length < 9 || length != 2 + (size_t)(at[0] << 8 | at[1]) || at[2] != 1 || at[7] > MOST_POINTS || at[8] > MOST_SCANS)
+        return false;
+    const uint8_t *end = at + length;
+    r->snapshot = get(at + 3);
+    r->points = at[7];
+    r->scans = at[8];
+    at += 9;
+    for (int i = 0; i < r->points; i++) {
+        if (end - at < 5 || at[0] - 1u > 2)
+            return false;
+        r->kinds[i] = at[0];
+        r->keys[i] = get(at + 1);
+        if (i > 0 && r->keys[i] <= r->keys[i - 1])
+            return false;
+        at += 5;
+        r->payloads[i] = 0;
+        if (r->kinds[i] == 2) {
+            if (end - at < 8)
+                return false;
+            r->payloads[i] = get_two(at);
+            at += 8;
+        }
+    }
+    if (end - at != 8 * r->scans)
+        return false;
+    for (int i = 0; i < r->scans; i++, at += 8) {
+        r->lows[i] = get(at);
+        r->highs[i] = get(at + 4);
+        if (r->lows[i] > r->highs[i] || (i > 0 && r->lows[i] <= r->highs[i - 1]))
+            return false;
+    }
+    return true;
+}
+
+/* The conflict walk: from left to right, with a cursor into the points and one into the scans. */
+struct walk {
+    const uint8_t *pool;
+    const struct record *record;
+    int point, scan;
+    uint32_t looks;
+};
+
+static bool conflict(struct walk *w, uint32_t i) {
+    const uint8_t *n = node_at(w->pool, i);
+    const struct record *r = w->record;
+    w->looks++;
+    if (get(n + NEWEST) <= r->snapshot)
+        return false;
+    uint32_t low = get(n + LOW), height = get(n + HEIGHT);
+    uint64_t to = low + ((uint64_t)1 << height);
+    while (w->point < r->points && r->keys[w->point] < low)
+        w->point++;
+    while (w->scan < r->scans && r->highs[w->scan] < low)
+        w->scan++;
+    if (!(w->point < r->points && r->keys[w->point] < to) && !(w->scan < r->scans && r->lows[w->scan] < to))
+        return false;
+    return height == 0 || conflict(w, get(n + LEFT)) || conflict(w, get(n + RIGHT));
+}
+
+/* Old tombstones in the tree at node i. */
+static uint32_t count_old(const uint8_t *pool, uint32_t i, uint32_t limit) {
+    const uint8_t *n = node_at(pool, i);
+    if (get(n + OLDEST) > limit || get(n + KIND) == 1)
+        return 0;
+    if (get(n + KIND) == 2)
+        return 1;
+    return count_old(pool, get(n + LEFT), limit) + count_old(pool, get(n + RIGHT), limit);
+}
+
+static inline void write_node(uint8_t *n, uint32_t height, uint32_t low, uint32_t newest, uint32_t oldest, uint32_t left, uint32_t right,
+                              uint32_t kind) {
+    set(n + HEIGHT, height);
+    set(n + LOW, low);
+    set(n + NEWEST, newest);
+    set(n + OLDEST, oldest);
+    set(n + LEFT, left);
+    set(n + RIGHT, right);
+    set(n + KIND, kind);
+    set(n + SPARE, 0);
+}
+
+/* Newest and oldest of an inner node from its children. */
+static inline void mend(const uint8_t *pool, uint8_t *n) {
+    const uint8_t *left = node_at(pool, get(n + LEFT)), *right = node_at(pool, get(n + RIGHT));
+    set(n + NEWEST, larger(get(left + NEWEST), get(right + NEWEST)));
+    set(n + OLDEST, smaller(get(left + OLDEST), get(right + OLDEST)));
+}
+
+/* The free nodes while tombstones are dropped. */
+struct freed {
+    uint32_t first, rank;
+};
+
+static uint32_t free_node(uint8_t *pool, uint32_t i, uint32_t instead, struct freed *f) {
+    f->rank++;
+    write_node(node_at(pool, i), NONE, f->first, f->rank, 0, 0, 0, 0);
+    f->first = i;
+    return instead;
+}
+
+/* Drops the old tombstones of the tree at node i; the node that stands there then, or none. */
+static uint32_t drop_old(uint8_t *pool, uint32_t i, uint32_t limit, struct freed *f) {
+    uint8_t *n = node_at(pool, i);
+    if (get(n + OLDEST) > limit || get(n + KIND) == 1)
+        return i;
+    if (get(n + KIND) == 2)
+        return free_node(pool, i, NONE, f);
+    uint32_t left = drop_old(pool, get(n + LEFT), limit, f), right = drop_old(pool, get(n + RIGHT), limit, f);
+    if (left == NONE)
+        return free_node(pool, i, right, f);
+    if (right == NONE)
+        return free_node(pool, i, left, f);
+    set(n + LEFT, left);
+    set(n + RIGHT, right);
+    mend(pool, n);
+    return i;
+}
+
+/* Stores a leaf for the key: one descent, then newest and oldest mended on the way back. */
+static void put(uint8_t *pool, uint32_t key, uint32_t v, uint64_t payload, uint32_t kind) {
+    uint32_t i = get(pool + ROOT), oldest = kind == 2 ? v : NONE, depth = 0;
+    uint8_t *path[DEEPEST], *link = pool + ROOT, *n;
+    while (i != NONE && (n = node_at(pool, i), covers(n, key)) && get(n + HEIGHT) > 0) {
+        path[depth++] = n;
+        link = n + ((key >> (get(n + HEIGHT) - 1)) & 1 ? RIGHT : LEFT);
+        i = get(link);
+    }
+    if (i != NONE && covers(node_at(pool, i), key)) {
+        write_node(node_at(pool, i), 0, key, v, oldest, (uint32_t)(payload >> 32), (uint32_t)payload, kind);
+    } else {
+        uint32_t first = get(pool + FREE), leaf = first;
+        if (i != NONE) {
+            leaf = get(node_at(pool, first) + LOW);
+            set(pool + FREE, get(node_at(pool, leaf) + LOW));
+            n = node_at(pool, i);
+            uint32_t other = get(n + LOW), height = 32 - (uint32_t)__builtin_clz(other ^ key);
+            uint32_t low = height == 32 ? 0 : key >> height << height;
+            bool before = key < other;
+            write_node(node_at(pool, first), height, low, larger(v, get(n + NEWEST)), smaller(oldest, get(n + OLDEST)), before ? leaf : i,
+                       before ? i : leaf, 0);
+        } else {
+            set(pool + FREE, get(node_at(pool, first) + LOW));
+        }
+        write_node(node_at(pool, leaf), 0, key, v, oldest, (uint32_t)(payload >> 32), (uint32_t)payload, kind);
+        set(link, first);
+        set(pool + KEPT, get(pool + KEPT) + 1);
+    }
+    while (depth > 0)
+        mend(pool, path[--depth]);
+}
+
+/* Row 3: 0 enough, 1 after a drop, 2 too little. */
+static int room(const uint8_t *pool, const struct record *r, uint32_t limit) {
+    uint32_t n = get(pool + LIMIT), kept = get(pool + KEPT), absent = 0, revived = 0;
+    if (kept + (uint32_t)r->points <= n)
+        return 0;
+    for (int i = 0; i < r->points; i++) {
+        if (r->kinds[i] == 1)
+            continue;
+        const uint8_t *leaf = leaf_of(pool, r->keys[i]);
+        absent += leaf == NULL;
+        revived += leaf != NULL && get(leaf + KIND) == 2 && get(leaf + NEWEST) <= limit;
+    }
+    if (kept + absent <= n)
+        return 0;
+    return kept + absent + revived - (kept > 0 ? count_old(pool, get(pool + ROOT), limit) : 0) <= n ? 1 : 2;
+}
+
+uint8_t plain_meld(uint8_t *pool, size_t pool_length, const uint8_t *record, size_t record_length, uint32_t *looks) {
+    struct record r;
+    *looks = 0;
+    if (!fits(pool, pool_length))
+        return 7;
+    uint32_t p = get(pool + POSITION), v = p + 1, zone = get(pool + ZONE);
+    if (p == NONE)
+        return 6;
+    set(pool + POSITION, v);
+    if (!parse(record, record_length, &r))
+        return 4;
+    if (r.snapshot > p)
+        return 5;
+    if (p - r.snapshot > zone)
+        return 2;
+    struct walk w = {pool, &r, 0, 0, 0};
+    bool found = get(pool + ROOT) != NONE && conflict(&w, get(pool + ROOT));
+    *looks = w.looks;
+    if (found)
+        return 1;
+    uint32_t limit = zone <= v ? v - zone : 0;
+    int there = room(pool, &r, limit);
+    if (there == 2)
+        return 3;
+    if (there == 1) {
+        struct freed f = {get(pool + FREE), get(node_at(pool, get(pool + FREE)) + NEWEST)};
+        set(pool + ROOT, drop_old(pool, get(pool + ROOT), limit, &f));
+        set(pool + FREE, f.first);
+        set(pool + KEPT, (2 * get(pool + LIMIT) + 1 - f.rank) / 2);
+    }
+    for (int i = 0; i < r.points; i++)
+        if (r.kinds[i] != 1)
+            put(pool, r.keys[i], v, r.payloads[i], r.kinds[i] == 2 ? 1 : 2);
+    return 0;
+}
