@@ -9,9 +9,10 @@ void card_start(struct card *card) {
 }
 
 /* Melds what the log has and the card has not seen. Answers 0 if the rest of the log is empty or a record that is not all there yet, 10 if no record
-   can stand there, 6 if this log has used up its positions. */
+   can stand there, 6 if this log has used up its positions, 7 if the pool was damaged and was so again when it had been built anew. */
 uint8_t card_catch_up(struct card *card) {
     uint8_t part[EMUPARASOL_MOST_RECORD];
+    bool again = false;
     for (;;) {
         size_t got = flash_read(card->place, part, sizeof part), next;
         uint8_t found = emuparasol_cut(part, got, 0, &next);
@@ -20,7 +21,10 @@ uint8_t card_catch_up(struct card *card) {
         uint32_t looks;
         uint8_t answer = emuparasol_meld(card->pool, sizeof card->pool, part, next, &looks);
         switch (answer) {
-        case EMUPARASOL_UNFIT_POOL: /* something wrote into the pool: build it again */
+        case EMUPARASOL_UNFIT_POOL: /* something wrote into the pool: build it again, but not for ever */
+            if (again)
+                return answer;
+            again = true;
             card_start(card);
             break;
         case EMUPARASOL_POSITIONS_USED_UP: /* nothing was changed, and nothing will be: this log is full */
