@@ -16,7 +16,7 @@ use Rattle.log.specs.declared.found.Cut.{Cut}
 use Rattle.log.specs.declared.found.Cut.the-variants.{End, Broken, Record}
 use Rattle.log.specs.Log.{cutAt, partOf}
 use Rattle.log.proofs.Stands.{record-tells}
-use Rattle.force.specs.Force.{Source, original, refreshed, nothing, sourceOf, bytesFrom}
+use Rattle.in_force.specs.InForce.{Source, original, refreshed, nothing, sourceOf, bytesFrom}
 use Rattle.meld.specs.Lookups.{lookupOf}
 use Rattle.abi.specs.declared.numbers.LookupNumbers.{LookupNumbers}
 use Rattle.abi.specs.declared.numbers.CutNumbers.{CutNumbers}

@@ -15,7 +15,7 @@ use Rattle.log.specs.declared.found.Cut.the-variants.{End, Broken, Record}
 use Rattle.log.specs.Log.{cutAt, partOf}
 use Rattle.log.proofs.Stands.{record-tells}
 use Rattle.log.proofs.Walk.{sized-at, sized-range}
-use Rattle.force.specs.Force.{Source, original, refreshed, nothing, sourceOf, ifCut, bytesFrom, InForce}
+use Rattle.in_force.specs.InForce.{Source, original, refreshed, nothing, sourceOf, ifCut, bytesFrom, InForce}
 use Rattle.abi.specs.Numbers.{answer}
 use Rattle.abi.specs.Told.{inRefreshed, InForceAs}
 

@@ -72,8 +72,8 @@ only-check bytes r q a b = ap (λ (c : Answer). c .number) (check-only bytes (an
 
 -- `emuparasol_read`: one number, snapshot and two counts, and one content of all five lists
 pub only-read : (bytes : List ℕ) (before : Reader.Lists) (r s points scans q s′ points′ scans′ : ℕ) (left kept : Reader.Lists)
-    → Reader.outcome (reading r s points scans) left ≡ Reader.readOf (parse bytes) before
-    → Reader.outcome (reading q s′ points′ scans′) kept ≡ Reader.readOf (parse bytes) before
+    → Reader.readOutcome (reading r s points scans) left ≡ Reader.readOf (parse bytes) before
+    → Reader.readOutcome (reading q s′ points′ scans′) kept ≡ Reader.readOf (parse bytes) before
     → (r ≡ q) × (s ≡ s′) × (points ≡ points′) × (scans ≡ scans′) × (left ≡ kept)
 only-read bytes before r s points scans q s′ points′ scans′ left kept a b =
     let x = read-only bytes before (reading r s points scans) (reading q s′ points′ scans′) left kept a b in (
@@ -86,8 +86,8 @@ only-read bytes before r s points scans q s′ points′ scans′ left kept a b 
 
 -- `emuparasol_write`: one number and size, and one content of the output
 pub only-write : (snapshot : ℕ) (l : Reader.Lists) (output : List ℕ) (r size q size′ : ℕ) (left kept : List ℕ)
-    → Writer.outcome (written r size) left ≡ Writer.writeOf (Writer.recordOf snapshot l) output
-    → Writer.outcome (written q size′) kept ≡ Writer.writeOf (Writer.recordOf snapshot l) output
+    → Writer.writeOutcome (written r size) left ≡ Writer.writeOf (Writer.recordOf snapshot l) output
+    → Writer.writeOutcome (written q size′) kept ≡ Writer.writeOf (Writer.recordOf snapshot l) output
     → (r ≡ q) × (size ≡ size′) × (left ≡ kept)
 only-write snapshot l output r size q size′ left kept a b =
     let x = write-only snapshot l output (written r size) (written q size′) left kept a b in

@@ -6,11 +6,11 @@ use Rattle.record.specs.declared.answer.Answer.{Answer}
 use Rattle.record.specs.declared.reader.Reading.{Reading}
 use Rattle.writer.specs.declared.Written.{Written}
 use Rattle.log.specs.declared.found.Cut.{Cut}
-use Rattle.log.specs.Log.{answerOf, placeAfter}
+use Rattle.log.specs.Log.{cutAnswer, placeAfter}
 use Rattle.meld.specs.declared.kept.Lookup.{Lookup}
 use Rattle.meld.specs.declared.kept.Lookup.the-variants.{Unfit, Absent, Found}
 use Rattle.meld.specs.declared.melding.Melded.{Melded}
-use Rattle.meld.specs.Lookups.{numberOf}
+use Rattle.meld.specs.Lookups.{lookupAnswer}
 use Rattle.abi.specs.declared.numbers.LookupNumbers.{LookupNumbers}
 use Rattle.abi.specs.declared.numbers.CutNumbers.{CutNumbers}
 
@@ -57,8 +57,8 @@ positionIn (Found x w) = w
 
 -- a lookup's answer as numbers: 7, 0 and 0 for an unfit pool; 0, 0 and 0 for an absent key; 0, the payload and the position for one that is found
 abbrev pub ofLookup : Lookup → LookupNumbers
-ofLookup l = lookedUp (numberIn (numberOf l)) (payloadIn l) (positionIn l)
+ofLookup l = lookedUp (numberIn (lookupAnswer l)) (payloadIn l) (positionIn l)
 
 -- what stands at a place as numbers: 10 and the place for a broken log; 0 and the place at the end; 0 and the place past a record
 abbrev pub ofCut : Cut → ℕ → CutNumbers
-ofCut c place = found (numberIn (answerOf c)) (placeAfter c place)
+ofCut c place = found (numberIn (cutAnswer c)) (placeAfter c place)

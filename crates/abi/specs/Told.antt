@@ -7,7 +7,7 @@ use mathlib.Core.List.{List}
 use lib.ListN.{length}
 use Rattle.rules.specs.Lookup.{lookup}
 use Rattle.pool.specs.Image.{Arrangement, Image, Fit, stateOf}
-use Rattle.force.specs.Force.{Source, original, refreshed, nothing, sourceOf, bytesFrom}
+use Rattle.in_force.specs.InForce.{Source, original, refreshed, nothing, sourceOf, bytesFrom}
 use Rattle.meld.specs.declared.kept.Lookup.the-variants.{Unfit}
 use Rattle.meld.specs.Lookups.{lookupOf}
 use Rattle.abi.specs.declared.numbers.LookupNumbers.{LookupNumbers}

@@ -113,7 +113,7 @@ pub extern "C" fn emuparasol_read(
     points: &mut usize,
     scans: &mut usize,
 ) -> u8
-    ensures { λ r. ⌜ Reader.outcome (reading r (now (snapshot .exit)) (now (points .exit)) (now (scans .exit)))
+    ensures { λ r. ⌜ Reader.readOutcome (reading r (now (snapshot .exit)) (now (points .exit)) (now (scans .exit)))
         (Reader.lists (now (kinds .exit)) (now (keys .exit)) (now (payloads .exit)) (now (lows .exit)) (now (highs .exit)))
         ≡ Reader.readOf (parse (now («record» .entry)))
         (Reader.lists (now (kinds .entry)) (now (keys .entry)) (now (payloads .entry)) (now (lows .entry)) (now (highs .entry))) ⌝ }
@@ -138,7 +138,7 @@ pub extern "C" fn emuparasol_write(
     output: &mut [u8],
     size: &mut usize,
 ) -> u8
-    ensures { λ r. ⌜ Writer.outcome (written r (now (size .exit))) (now (output .exit))
+    ensures { λ r. ⌜ Writer.writeOutcome (written r (now (size .exit))) (now (output .exit))
         ≡ Writer.writeOf (Writer.recordOf snapshot
         (Reader.lists (now (kinds .entry)) (now (keys .entry)) (now (payloads .entry)) (now (lows .entry)) (now (highs .entry))))
         (now (output .entry)) ⌝ }

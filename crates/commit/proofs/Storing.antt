@@ -13,7 +13,7 @@ use Rattle.record.specs.Record.{kindOf, keyOf, payloadOf}
 use Rattle.rules.specs.Lists.{if_then_else_}
 use Rattle.rules.specs.State.{Entry, State}
 use Rattle.rules.specs.Verdict.{store, storeAll}
-use Rattle.rules.specs.Sized.{Sized}
+use Rattle.rules.specs.EntryFits.{EntryFits}
 use Rattle.pool.specs.Image.{Arrangement, Arranged, stateOf}
 use Rattle.put.specs.Storing.{putIn}
 use Rattle.put.proofs.Arranging.{Storable, state-put, arranged-put}
@@ -46,7 +46,7 @@ storeAll-grows (w ∷ ws) es = omega (arith, store-grows w es, storeAll-grows ws
 -- each write fits its bytes, stands at the arrangement's position, and there is room for all
 pub record AllStorable (A : Arrangement) (ws : List Entry) : Type 0 where
   pub started : 1 ≤ A .p
-  pub sized : (e : Entry) → Mem e ws → Sized e
+  pub sized : (e : Entry) → Mem e ws → EntryFits e
   pub at-p : (e : Entry) → Mem e ws → e .position ≡ A .p
   pub room : length (storeAll ws (stateOf A .kept)) ≤ A .N
 

@@ -10,7 +10,7 @@ use Rattle.record.specs.declared.point.Point.{Point}
 use Rattle.record.specs.declared.point.Point.the-variants.{Read, Put, Delete}
 use Rattle.rules.specs.Lists.{if_then_else_}
 use Rattle.rules.specs.State.{Entry}
-use Rattle.rules.specs.Sized.{Sized}
+use Rattle.rules.specs.EntryFits.{EntryFits}
 use Rattle.rules.specs.Footprint.{writesOf}
 use Rattle.rules.specs.Verdict.{storeAll}
 use Rattle.pool.specs.Image.{Arrangement, Image, stateOf}
@@ -51,7 +51,7 @@ pub record Applicable (m kinds ks xs : List ℕ) : Type 0 where
   pub written-at : 1 ≤ arrangement .p
   pub as-many-keys : length ks ≡ length kinds
   pub as-many-payloads : length xs ≡ length kinds
-  pub sized : (e : Entry) → Mem e (writesIn (arrangement .p) kinds ks xs) → Sized e
+  pub sized : (e : Entry) → Mem e (writesIn (arrangement .p) kinds ks xs) → EntryFits e
   pub room : length (storeAll (writesIn (arrangement .p) kinds ks xs) (stateOf arrangement .kept)) ≤ arrangement .N
 
 -- afterwards all writes are stored at the pool's position

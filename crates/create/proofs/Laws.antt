@@ -27,7 +27,7 @@ use Rattle.pool.specs.Plan.{noNode, freeNode}
 use Rattle.pool.specs.Image.{AllBelow, Arranged, HoldsFree, firstOf, layoutMark, headerOf, Image}
 use Rattle.pool.proofs.Apart.{free-distinct}
 use Rattle.create.specs.Fresh.{upFrom, freshPlan, limitsOk, Created}
-use Rattle.create.specs.Steps.{nextFree, Freed, Cleared}
+use Rattle.create.specs.Steps.{nextFree, FreedBefore, Cleared}
 
 -- THE LIMITS
 
@@ -90,7 +90,7 @@ pub free-made : (nodes i next behind : ℕ) → next ≡ nextFree nodes i → be
     → record { height = noNode; low = next; newest = behind + 1; oldest = 0; left = 0; right = 0; kind = 0; spare = 0 } ≡ freeNode (nextFree nodes i) (nodes - i)
 free-made nodes i next behind e r = λ k. freeNode (e k) (r k)
 
-pub freed-none : (nodes : ℕ) (m : List ℕ) → Bytes m → Freed nodes 0 m m
+pub freed-none : (nodes : ℕ) (m : List ℕ) → Bytes m → FreedBefore nodes 0 m m
 freed-none nodes m b = record { as-long = refl; bytes = b; freed = λ j l. absurd (omega arith) }
 
 next-fits : (nodes i : ℕ) → i < nodes → nodes ≤ 131072 → nextFree nodes i < 4294967296
@@ -100,8 +100,8 @@ next-fits nodes i l s = go (eqb (i + 1) nodes)
     go true = omega arith
     go false = omega arith
 
-pub freed-more : (nodes i : ℕ) (m m′ m″ : List ℕ) (n : Node) → Freed nodes i m m′ → i < nodes → 64 + 32 * nodes ≤ length m → nodes ≤ 131072 → n ≡ freeNode (nextFree nodes i) (nodes - i)
-    → m″ ≡ putNode m′ i n → Freed nodes (i + 1) m m″
+pub freed-more : (nodes i : ℕ) (m m′ m″ : List ℕ) (n : Node) → FreedBefore nodes i m m′ → i < nodes → 64 + 32 * nodes ≤ length m → nodes ≤ 131072 → n ≡ freeNode (nextFree nodes i) (nodes - i)
+    → m″ ≡ putNode m′ i n → FreedBefore nodes (i + 1) m m″
 freed-more nodes i m m′ m″ n f l room few en e =
     rw (e, en) (record {
       as-long = length-node m′ i free ∙ f .as-long;
@@ -118,8 +118,8 @@ freed-more nodes i m m′ m″ n f l room few en e =
     here : nodeAt (putNode m′ i free) i ≡ freeNode (nextFree nodes i) (nodes - i)
     here = node-put m′ i free (omega (arith, f .as-long)) (omega arith, (next-fits nodes i l few, (omega arith, (omega arith, (omega arith, (omega arith, (omega arith, (omega arith, tt))))))))
 
-pub freed-all : (nodes i : ℕ) (m m′ : List ℕ) → Freed nodes i m m′ → nodes ≤ i → i ≤ nodes → Freed nodes nodes m m′
-freed-all nodes i m m′ f a b = subst (λ (x : ℕ). Freed nodes x m m′) (omega arith) f
+pub freed-all : (nodes i : ℕ) (m m′ : List ℕ) → FreedBefore nodes i m m′ → nodes ≤ i → i ≤ nodes → FreedBefore nodes nodes m m′
+freed-all nodes i m m′ f a b = subst (λ (x : ℕ). FreedBefore nodes x m m′) (omega arith) f
 
 -- THE ZEROS
 
@@ -183,7 +183,7 @@ first-zero n h = go (2 * n) (omega arith)
     go zero l = absurd (omega arith)
     go (suc k) l = refl
 
-module _ (m m₁ m₂ m₃ : List ℕ) (n z : ℕ) (l : Limits n z (length m)) (f : Freed (2 * n) (2 * n) m m₁) (c : Cleared 64 m₁ m₂) (e : m₃ ≡ putHeader m₂ (newHeader n z)) where
+module _ (m m₁ m₂ m₃ : List ℕ) (n z : ℕ) (l : Limits n z (length m)) (f : FreedBefore (2 * n) (2 * n) m m₁) (c : Cleared 64 m₁ m₂) (e : m₃ ≡ putHeader m₂ (newHeader n z)) where
   node-kept : (j : ℕ) → nodeAt m₃ j ≡ nodeAt m₁ j
   node-kept j = rw e (node-header m₂ (newHeader n z) j ∙ node-same m₁ m₂ j (λ k p q. c .others k (inr (omega arith))))
 
@@ -233,7 +233,7 @@ module _ (m m₁ m₂ m₃ : List ℕ) (n z : ℕ) (l : Limits n z (length m)) (
 pub refuses : (m : List ℕ) (n z : ℕ) (b : Bool) → b ≡ limitsOk n z (length m) → not b ≡ true → Created m n z badLimits m
 refuses m n z b e h = record { made = λ x. differ (sym x ∙ sym e ∙ not-true b h); refused = λ _. (refl, refl) }
 
-pub makes : (m m₁ m₂ m₃ : List ℕ) (n z : ℕ) (b : Bool) → b ≡ limitsOk n z (length m) → not b ≡ false → Freed (2 * n) (2 * n) m m₁ → Cleared 64 m₁ m₂ → m₃ ≡ putHeader m₂ (newHeader n z)
+pub makes : (m m₁ m₂ m₃ : List ℕ) (n z : ℕ) (b : Bool) → b ≡ limitsOk n z (length m) → not b ≡ false → FreedBefore (2 * n) (2 * n) m m₁ → Cleared 64 m₁ m₂ → m₃ ≡ putHeader m₂ (newHeader n z)
     → Created m n z committed m₃
 makes m m₁ m₂ m₃ n z b e h f c x =
     record { made = λ _. (refl, fresh-image m m₁ m₂ m₃ n z (limits-facts n z (length m) b e h) f c x); refused = λ y. differ (sym (sym e ∙ not-false b h) ∙ y) }

@@ -16,7 +16,7 @@ abbrev pub nextFree : ℕ → ℕ → ℕ
 nextFree nodes i = if eqb (i + 1) nodes then noNode else (i + 1)
 
 -- each node below i is free, with the next and the rank of a new pool of so many nodes
-pub record Freed (nodes i : ℕ) (m m′ : List ℕ) : Type 0 where
+pub record FreedBefore (nodes i : ℕ) (m m′ : List ℕ) : Type 0 where
   pub as-long : length m′ ≡ length m
   pub bytes : Bytes m′
   pub freed : (j : ℕ) → j < i → nodeAt m′ j ≡ freeNode (nextFree nodes j) (nodes - j)

@@ -10,7 +10,7 @@ ghost use lib.ListN.{length};
 ghost use Rattle.words.specs.Word.{Bytes};
 ghost use Rattle.pool.specs.Plan.{freeNode};
 ghost use Rattle.create.specs.Fresh.{limitsOk, Created};
-ghost use Rattle.create.specs.Steps.{nextFree, Freed, Cleared};
+ghost use Rattle.create.specs.Steps.{nextFree, FreedBefore, Cleared};
 
 // Whether the limits are in their ranges and a pool for them has this size.
 fn limits_hold(n: u32, z: u32, size: usize) -> bool
@@ -53,7 +53,7 @@ fn free_node(i: u32, nodes: u32) -> Node
 // Makes all nodes free.
 fn free_all(pool: &mut [u8], nodes: u32)
     requires { ⌜ (64 + 32 * nodes ≤ length (now pool)) × (nodes ≤ 131072) ⌝ }
-    ensures { λ _. ⌜ Freed nodes nodes (now (pool .entry)) (now (pool .exit)) ⌝ }
+    ensures { λ _. ⌜ FreedBefore nodes nodes (now (pool .entry)) (now (pool .exit)) ⌝ }
 {
     let mut i: u32 = 0;
     while i < nodes {

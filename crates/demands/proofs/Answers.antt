@@ -20,11 +20,11 @@ use Rattle.writer.specs.Writer as Writer
 use Rattle.log.specs.declared.found.Cut.{Cut}
 use Rattle.log.specs.Log.{CutIs, HandedOut}
 use Rattle.log.proofs.Only.{SameSlice, only-cut, only-part}
-use Rattle.walker.specs.declared.LogReader.{LogReader}
-use Rattle.walker.specs.declared.Step.{Step}
-use Rattle.walker.specs.declared.Move.{Move}
-use Rattle.walker.specs.Walker.{Opened, Stands, Stepped, Moved}
-use Rattle.walker.proofs.Only.{SameStep, only-new, only-step, only-step-at}
+use Rattle.log_reader.specs.declared.LogReader.{LogReader}
+use Rattle.log_reader.specs.declared.Step.{Step}
+use Rattle.log_reader.specs.declared.Move.{Move}
+use Rattle.log_reader.specs.LogReader.{Opened, PlaceIs, Stepped, Moved}
+use Rattle.log_reader.proofs.Only.{SameStep, only-new, only-step, only-step-at}
 use Rattle.pool.specs.Image.{Fit}
 use Rattle.fit.specs.Whole.{Decides}
 use Rattle.fit.proofs.Promises as Fitness
@@ -37,8 +37,8 @@ use Rattle.meld.specs.Melds.{Melds}
 use Rattle.meld.proofs.Only.{only-meld, only-lookup}
 use Rattle.refresh.specs.Refreshed.{RefreshIs}
 use Rattle.refresh.proofs.Only.{refresh-only}
-use Rattle.force.specs.Force.{InForce}
-use Rattle.force.proofs.Only.{in-force-only}
+use Rattle.in_force.specs.InForce.{InForce}
+use Rattle.in_force.proofs.Only.{in-force-only}
 use Rattle.demands.specs.Answers.{OneAnswer}
 
 -- WHERE THE PROMISE IS AN EQUATION
@@ -50,7 +50,7 @@ one-if-equal z x y e f = e ∙ sym f
 pub check-one : (bytes : List ℕ) → OneAnswer (λ (a : Answer). a ≡ checkOf (parse bytes))
 check-one bytes = one-if-equal (checkOf (parse bytes))
 
-pub read-one : (bytes : List ℕ) (before : Lists) → OneAnswer (λ (o : Reader.Outcome). o ≡ readOf (parse bytes) before)
+pub read-one : (bytes : List ℕ) (before : Lists) → OneAnswer (λ (o : Reader.ReadOutcome). o ≡ readOf (parse bytes) before)
 read-one bytes before = one-if-equal (readOf (parse bytes) before)
 
 pub kind-one : (p : Point) → OneAnswer (λ (n : ℕ). n ≡ kindOf p)
@@ -62,14 +62,14 @@ key-one p = one-if-equal (keyOf p)
 pub payload-one : (p : Point) → OneAnswer (λ (n : ℕ). n ≡ payloadOf p)
 payload-one p = one-if-equal (payloadOf p)
 
-pub write-one : (snapshot : ℕ) (l : Lists) (before : List ℕ) → OneAnswer (λ (o : Writer.Outcome). o ≡ writeOf (recordOf snapshot l) before)
+pub write-one : (snapshot : ℕ) (l : Lists) (before : List ℕ) → OneAnswer (λ (o : Writer.WriteOutcome). o ≡ writeOf (recordOf snapshot l) before)
 write-one snapshot l before = one-if-equal (writeOf (recordOf snapshot l) before)
 
 pub write-pairs-one : (snapshot : ℕ) (ks es xs : List ℕ) (cs : List Scan) (before : List ℕ)
-    → OneAnswer (λ (o : Writer.Outcome). o ≡ writeOf (recordOf snapshot (lists ks es xs (map lowOf cs) (map highOf cs))) before)
+    → OneAnswer (λ (o : Writer.WriteOutcome). o ≡ writeOf (recordOf snapshot (lists ks es xs (map lowOf cs) (map highOf cs))) before)
 write-pairs-one snapshot ks es xs cs before = one-if-equal (writeOf (recordOf snapshot (lists ks es xs (map lowOf cs) (map highOf cs))) before)
 
-pub place-one : (reader : LogReader) → OneAnswer (λ (n : ℕ). Stands reader n)
+pub place-one : (reader : LogReader) → OneAnswer (λ (n : ℕ). PlaceIs reader n)
 place-one reader = one-if-equal (reader .place)
 
 -- WHERE IT IS MORE

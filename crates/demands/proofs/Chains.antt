@@ -19,13 +19,13 @@ use Rattle.log.specs.declared.found.Cut.{Cut}
 use Rattle.log.specs.Walk.{Walks}
 use Rattle.log.proofs.Walk.{walked}
 use Rattle.rules.specs.State.{State, lastPosition}
-use Rattle.rules.specs.Verdict.{Verdict, conflict, answerOf, verdict}
+use Rattle.rules.specs.Verdict.{Verdict, conflict, verdictAnswer, verdict}
 use Rattle.rules.specs.Log.{stateAt}
-use Rattle.rules.specs.Refresh.{Refreshed, done, refresh, onward, chain}
+use Rattle.rules.specs.Refresh.{Refreshed, done, refresh, andThen, chain}
 use Rattle.rules.specs.Refresh as Rules
 use Rattle.rules.specs.Demands.{InOrder, lastOf}
-use Rattle.rules.specs.Outcome.{MeldsAs, Outcome}
-use Rattle.rules.specs.Outcome as Ends
+use Rattle.rules.specs.ChainOutcome.{AnswersAlike, ChainOutcome}
+use Rattle.rules.specs.ChainOutcome as Ends
 use Rattle.rules.proofs.Refreshing.{refresh-exactly}
 use Rattle.rules.proofs.Chain.{demand-three}
 use Rattle.pool.specs.Image.{Arrangement, Image, stateOf}
@@ -65,14 +65,14 @@ unfolding afterIn
 same-after A r′ r ps v = ap (λ (l : List Point). leftIn A l (verdict (stateOf A) (some r′))) ps ∙ ap (leftIn A (r .points)) v
 
 -- a record that melds as another by the rules melds so on bytes
-same-meld : (S : State) (m original result : List ℕ) (r r′ : Rec) → Means m S → parse original ≡ some r → parse result ≡ some r′ → r′ .points ≡ r .points → MeldsAs S r′ r → SameMeld m original result
+same-meld : (S : State) (m original result : List ℕ) (r r′ : Rec) → Means m S → parse original ≡ some r → parse result ≡ some r′ → r′ .points ≡ r .points → AnswersAlike S r′ r → SameMeld m original result
 same-meld S m original result r r′ means is is′ ps h m₁ m₂ x₁ x₂ d₁ d₂ =
     let e₁ = meld-answers S m original r is means m₁ x₁ d₁ in
     let e₂ = meld-answers S m result r′ is′ means m₂ x₂ d₂ in
     let v : verdict (stateOf (means .arrangement)) (some r′) ≡ verdict (stateOf (means .arrangement)) (some r) =
     subst (λ (T : State). verdict T (some r′) ≡ verdict T (some r)) (sym (means .state)) (h .answer) in
     record {
-      answer = ap (λ (x : Melded). x .answer) e₂ ∙ ap answerOf (h .answer) ∙ sym (ap (λ (x : Melded). x .answer) e₁);
+      answer = ap (λ (x : Melded). x .answer) e₂ ∙ ap verdictAnswer (h .answer) ∙ sym (ap (λ (x : Melded). x .answer) e₁);
       pool = one-image m₂ m₁ (afterIn (means .arrangement) (some r))
           (subst (Image m₂) (same-after (means .arrangement) r′ r ps v) (meld-leaves S m result r′ is′ means m₂ x₂ d₂)) (meld-leaves S m original r is means m₁ x₁ d₁);
       looks-le = omega (arith, h .looks-le, ap (λ (x : Melded). x .looks) e₁, ap (λ (x : Melded). x .looks) e₂);
@@ -83,7 +83,7 @@ same-meld S m original result r r′ means is is′ ps h m₁ m₂ x₁ x₂ d�
 -- a chain of the rules and the answer and bytes that it stands for
 pub data Stands (c : Refreshed) (a : Answer) (result : List ℕ) : Type 0 where
   for-record : (r′ : Rec) → c ≡ done r′ → a ≡ Names.committed → Valid r′ → result ≡ bytesOf r′ → Stands c a result
-  for-refusal : (v : Verdict) → c ≡ Rules.refused v → a ≡ answerOf v → Stands c a result
+  for-refusal : (v : Verdict) → c ≡ Rules.refused v → a ≡ verdictAnswer v → Stands c a result
 
 module _ (N Z : ℕ) (log : List ℕ) (bytes : Bytes log) (parts : List (List ℕ)) (last : Cut) (w : Walks log 0 parts last) where
   -- the rules' state after q records
@@ -104,20 +104,20 @@ module _ (N Z : ℕ) (log : List ℕ) (bytes : Bytes log) (parts : List (List �
   chain-stands {original = original} {result = result} {q = q} {a = a} r b is (last-stop {m = m} k h) = go (once (St q) m original b r is a result (pool-means k) h)
     where
       go : Once (St q) r a result → Stands (chain (map St (q ∷ [])) r) a result
-      go (went r′ e z v s) = for-record r′ (ap (λ (x : Refreshed). onward x (chain [])) e) z v s
-      go (said v e z n) = for-refusal v (ap (λ (x : Refreshed). onward x (chain [])) e) z
+      go (went r′ e z v s) = for-record r′ (ap (λ (x : Refreshed). andThen x (chain [])) e) z v s
+      go (said v e z n) = for-refusal v (ap (λ (x : Refreshed). andThen x (chain [])) e) z
   chain-stands {original = original} {result = result} {q = q} {qs = q′ ∷ qs} {a = a} r b is (refused {m = m} k h never) = go (once (St q) m original b r is a result (pool-means k) h)
     where
       go : Once (St q) r a result → Stands (chain (map St (q ∷ q′ ∷ qs)) r) a result
       go (went r′ e z v s) = absurd (never z)
-      go (said v e z n) = for-refusal v (ap (λ (x : Refreshed). onward x (chain (map St (q′ ∷ qs)))) e) z
+      go (said v e z n) = for-refusal v (ap (λ (x : Refreshed). andThen x (chain (map St (q′ ∷ qs)))) e) z
   chain-stands {original = original} {result = result} {q = q} {qs = q′ ∷ qs} {a = a} r b is (further {m = m} {between = between} k h t) =
       go (λ r′ y i. chain-stands r′ y i t) (once (St q) m original b r is Names.committed between (pool-means k) h)
     where
       go : ((r′ : Rec) → Bytes between → parse between ≡ some r′ → Stands (chain (map St (q′ ∷ qs)) r′) a result)
           → Once (St q) r Names.committed between → Stands (chain (map St (q ∷ q′ ∷ qs)) r) a result
       go on (went r′ e z v s) =
-          subst (λ (x : Refreshed). Stands x a result) (sym (ap (λ (x : Refreshed). onward x (chain (map St (q′ ∷ qs)))) e))
+          subst (λ (x : Refreshed). Stands x a result) (sym (ap (λ (x : Refreshed). andThen x (chain (map St (q′ ∷ qs)))) e))
           (on r′ (subst Bytes (sym s) (valid-bytes r′ v)) (ap parse s ∙ parse-bytesOf r′ v))
       go on (said v e z n) = absurd (n refl)
 
@@ -128,8 +128,8 @@ module _ (N Z : ℕ) (log : List ℕ) (bytes : Bytes log) (parts : List (List �
     stops : (q : ℕ) (c : Refreshed) → c ≡ Rules.refused conflict → verdict (St p) (some r) ≡ conflict → Stands c a result → ChainEnds N Z log m original q a result
     stops q c e v (for-record r′ d z u s) = done-not-refused (sym d ∙ e)
     stops q c e v (for-refusal x d z) =
-        stopped (z ∙ ap answerOf (refused-same (sym d ∙ e)))
-        (λ m′ y h. ap (λ (o : Melded). o .answer) (meld-answers (St p) m original r is (pool-means at-p) m′ y h) ∙ ap answerOf v)
+        stopped (z ∙ ap verdictAnswer (refused-same (sym d ∙ e)))
+        (λ m′ y h. ap (λ (o : Melded). o .answer) (meld-answers (St p) m original r is (pool-means at-p) m′ y h) ∙ ap verdictAnswer v)
 
     -- one refresh at the last stop gives the same bytes
     one-refresh : (q : ℕ) (r′ : Rec) → refresh (St q) (some r) ≡ done r′ → result ≡ bytesOf r′ → SameRefresh N Z log original q result
@@ -140,7 +140,7 @@ module _ (N Z : ℕ) (log : List ℕ) (bytes : Bytes log) (parts : List (List �
         go x o (said v d z n) = done-not-refused (sym e ∙ d)
 
     -- a chain that was carried through
-    carries : (q : ℕ) (c : Refreshed) (r′ : Rec) → c ≡ done r′ → refresh (St q) (some r) ≡ done r′ → MeldsAs (St p) r′ r → Stands c a result → ChainEnds N Z log m original q a result
+    carries : (q : ℕ) (c : Refreshed) (r′ : Rec) → c ≡ done r′ → refresh (St q) (some r) ≡ done r′ → AnswersAlike (St p) r′ r → Stands c a result → ChainEnds N Z log m original q a result
     carries q c r′ e f h (for-refusal v d z) = done-not-refused (sym e ∙ d)
     carries q c r′ e f h (for-record r″ d z v s) =
         let same : r″ ≡ r′ = done-same (sym d ∙ e) in
@@ -149,7 +149,7 @@ module _ (N Z : ℕ) (log : List ℕ) (bytes : Bytes log) (parts : List (List �
         carried z (one-refresh q r′ f result-is) (same-meld (St p) m original result r r′ (pool-means at-p) is reads (refresh-exactly (St q) r r′ .0 f .same-points) h)
 
     -- the rules' outcome is the bytes'
-    pub ends : (q : ℕ) (c : Refreshed) → Outcome (St p) (St q) r c → Stands c a result → ChainEnds N Z log m original q a result
+    pub ends : (q : ℕ) (c : Refreshed) → ChainOutcome (St p) (St q) r c → Stands c a result → ChainEnds N Z log m original q a result
     ends q c (Ends.stopped e v) s = stops q c e v s
     ends q c (Ends.carried r′ e f h) s = carries q c r′ e f h s
 

@@ -25,7 +25,7 @@ use Rattle.meld.specs.declared.kept.Lookup.the-variants.{Unfit, Absent, Found}
 use Rattle.meld.specs.declared.melding.Melded.{Melded}
 use Rattle.meld.specs.Lookups.{lookupOf}
 use Rattle.meld.specs.Melds.{meldedOf}
-use Rattle.refresh.specs.Refreshed.{Outcome, outcome, leftBy, refreshedOf}
+use Rattle.refresh.specs.Refreshed.{RefreshOutcome, refreshOutcome, leftBy, refreshedOf}
 use Rattle.demands.specs.Runs.{Means}
 use Rattle.demands.specs.Fakes.{Library, AlwaysRefuses, AlwaysCommits, StoresNothing, OnlyFirst, Copies, AlwaysAhead, InventsLooks}
 use Rattle.demands.proofs.Following.{meld-means}
@@ -90,7 +90,7 @@ module _ (L : Library) where
         let x = meld-means S means (valid-bytes r v) (L .meld-keeps m (bytesOf r) (means .image .bytes) (valid-bytes r v)) in
         (x .0 ∙ ap (meldedOf S) (parse-bytesOf r v), subst (λ (o : Option Rec). Means (L .meld m (bytesOf r) .1) (next S o)) (parse-bytesOf r v) (x .1))
 
-    refreshed : (output : List ℕ) → Bytes output → outcome (L .refresh m (bytesOf r) output .0) (L .refresh m (bytesOf r) output .1) ≡ refreshedOf S (some r) output
+    refreshed : (output : List ℕ) → Bytes output → refreshOutcome (L .refresh m (bytesOf r) output .0) (L .refresh m (bytesOf r) output .1) ≡ refreshedOf S (some r) output
     refreshed output b =
         L .refresh-keeps m (bytesOf r) output (means .image .bytes) (valid-bytes r v) b .fit (means .arrangement) (means .image)
         ∙ ap (λ (T : State). refreshedOf T (parse (bytesOf r)) output) (means .state) ∙ ap (λ (o : Option Rec). refreshedOf S o output) (parse-bytesOf r v)
@@ -156,7 +156,7 @@ module _ (L : Library) where
   unfolding refresh leftBy reach meets hits bigEndian
   not-always-ahead f =
       let x = refreshed new (fresh 1 1) new-means (nothing 0) valid-nothing (replicate 9 0) nine in
-      omega (arith, ap (λ (a : Answer). a .number) (sym (f new (bytesOf (nothing 0)) (replicate 9 0)) ∙ ap (λ (o : Outcome). o .answer) x))
+      omega (arith, ap (λ (a : Answer). a .number) (sym (f new (bytesOf (nothing 0)) (replicate 9 0)) ∙ ap (λ (o : RefreshOutcome). o .answer) x))
 
   -- at position 1 the byte of weight 1 of its snapshot is 1, not 0
   pub not-copies : Copies L → ⊥
@@ -164,8 +164,8 @@ module _ (L : Library) where
   not-copies f =
       let S : State = next (fresh 1 1) (some (put 0 100)) in
       let x = refreshed first S first-means (nothing 0) valid-nothing (replicate 9 0) nine in
-      let e = f first (bytesOf (nothing 0)) (replicate 9 0) (ap (λ (o : Outcome). o .answer) x) in
-      let a : getD (take 9 (L .refresh first (bytesOf (nothing 0)) (replicate 9 0) .1)) 6 0 ≡ 1 = ap (λ (o : Outcome). getD (take 9 (o .output)) 6 0) x in
+      let e = f first (bytesOf (nothing 0)) (replicate 9 0) (ap (λ (o : RefreshOutcome). o .answer) x) in
+      let a : getD (take 9 (L .refresh first (bytesOf (nothing 0)) (replicate 9 0) .1)) 6 0 ≡ 1 = ap (λ (o : RefreshOutcome). getD (take 9 (o .output)) 6 0) x in
       let b : getD (take 9 (L .refresh first (bytesOf (nothing 0)) (replicate 9 0) .1)) 6 0 ≡ 0 = ap (λ (l : List ℕ). getD l 6 0) e in
       omega arith
 

@@ -18,20 +18,20 @@ use Rattle.record.proofs.RoundTrip.{valid-size}
 use Rattle.log.specs.declared.found.Cut.{Cut}
 use Rattle.log.specs.declared.found.Cut.the-variants.{Record}
 use Rattle.log.specs.Log.{cutAt, partOf}
-use Rattle.log.specs.Sized.{Sized}
+use Rattle.log.specs.PartSized.{PartSized}
 use Rattle.log.proofs.Same.{cut-here}
 use Rattle.rules.specs.State.{State, lastPosition}
-use Rattle.rules.specs.Verdict.{Verdict, answerOf}
+use Rattle.rules.specs.Verdict.{Verdict, verdictAnswer}
 use Rattle.rules.specs.Refresh.{at, Refreshed, done, refused, refresh}
 use Rattle.rules.proofs.Refreshing.{Refreshes, refresh-exactly, refreshed-valid}
-use Rattle.refresh.specs.Refreshed.{Outcome, outcome, leftBy, refreshedOf}
+use Rattle.refresh.specs.Refreshed.{RefreshOutcome, refreshOutcome, leftBy, refreshedOf}
 use Rattle.refresh.proofs.Output.{FrontIs, Refreshable, after-zero, zero-exactly}
-use Rattle.force.specs.Force.{sourceOf, ifCut, bytesFrom}
+use Rattle.in_force.specs.InForce.{sourceOf, ifCut, bytesFrom}
 use Rattle.demands.specs.Runs.{Means}
 use Rattle.demands.specs.Chains.{RefreshedTo}
 
 -- a valid record's bytes are as the log rule hands them out
-pub record-sized : (r : Rec) → Valid r → Sized (bytesOf r)
+pub record-sized : (r : Rec) → Valid r → PartSized (bytesOf r)
 record-sized r v = let s = valid-size r v in record { size = sym (s .field); least = s .field-least; most = s .field-most }
 
 -- the record in force after 0, where a valid record stands at the front of the buffer
@@ -48,7 +48,7 @@ front-in-force r v original after rest e =
 -- what one refresh comes to: the rules' record, which is then in force, or the rules' refusal
 pub data Once (S : State) (r : Rec) (a : Answer) (result : List ℕ) : Type 0 where
   went : (r′ : Rec) → refresh S (some r) ≡ done r′ → a ≡ committed → Valid r′ → result ≡ bytesOf r′ → Once S r a result
-  said : (v : Verdict) → refresh S (some r) ≡ refused v → a ≡ answerOf v → (a ≡ committed → ⊥) → Once S r a result
+  said : (v : Verdict) → refresh S (some r) ≡ refused v → a ≡ verdictAnswer v → (a ≡ committed → ⊥) → Once S r a result
 
 some-same : {x y : Rec} → some x ≡ some y → x ≡ y
 some-same e = cc
@@ -60,8 +60,8 @@ module _ (S : State) (m original : List ℕ) (b : Bytes original) (r : Rec) (is 
   last = subst (λ (T : State). T .p ≤ lastPosition) (means .state) (means .image .arranged .lawful .last)
 
   -- what the promise says, for this state
-  promised : outcome a (h .after) ≡ refreshedOf S (parse original) (h .before)
-  promised = subst (λ (T : State). outcome a (h .after) ≡ refreshedOf T (parse original) (h .before)) (means .state) (h .refreshed .fit (means .arrangement) (means .image))
+  promised : refreshOutcome a (h .after) ≡ refreshedOf S (parse original) (h .before)
+  promised = subst (λ (T : State). refreshOutcome a (h .after) ≡ refreshedOf T (parse original) (h .before)) (means .state) (h .refreshed .fit (means .arrangement) (means .image))
 
   -- a refreshed record is the original with snapshot p
   passes : (r′ : Rec) → refresh S (some r) ≡ done r′ → Refreshes S r (at (S .p) r)
@@ -98,7 +98,7 @@ module _ (S : State) (m original : List ℕ) (b : Bytes original) (r : Rec) (is 
   -- a refusal is told
   once-refused : (v : Verdict) → refresh S (some r) ≡ refused v → Once S r a result
   unfolding leftBy
-  once-refused v e = said v e (ap (λ (o : Outcome). o .answer) (promised ∙ ap (λ (x : Option Rec). leftBy (refresh S x) (h .before)) is ∙ ap (λ (x : Refreshed). leftBy x (h .before)) e)) never
+  once-refused v e = said v e (ap (λ (o : RefreshOutcome). o .answer) (promised ∙ ap (λ (x : Option Rec). leftBy (refresh S x) (h .before)) is ∙ ap (λ (x : Refreshed). leftBy x (h .before)) e)) never
     where
       done-not : (x : Rec) → done x ≡ refused v → ⊥
       done-not x d = let z : _≡_ {A = ℕ} 0 1 = cc in omega arith

@@ -15,7 +15,7 @@ use Rattle.nodes.specs.Nodes.{headerAt, putHeader}
 use Rattle.nodes.specs.Laws.{byte-header}
 use Rattle.pool.specs.Image.{Arrangement, Image, headerOf}
 use Rattle.pool.proofs.Fixed.{one-image}
-use Rattle.drop.specs.Drop.{onward}
+use Rattle.drop.specs.Drop.{movedOn}
 use Rattle.drop.proofs.Arranging.{onward-arranged}
 use Rattle.drop.proofs.Headers.{image-of}
 use Rattle.demands.specs.Touches.{Within, positionFrom, positionTo}
@@ -30,7 +30,7 @@ word-byte m m′ q i b b′ l l′ e low top =
     sym (cut m′) ∙ ap (λ (s : List ℕ). getD s (i - 4 * q) 0) (same-bytes 4 m′ m (4 * q) (4 * q) b′ b l′ l e) ∙ cut m
 
 -- the header's words but for the position
-header-words : (m m′ : List ℕ) (A : Arrangement) → Image m A → Image m′ (onward A) → (q : ℕ) → q < 7 → (q ≡ 3 → ⊥) → word 4 m′ (4 * q) ≡ word 4 m (4 * q)
+header-words : (m m′ : List ℕ) (A : Arrangement) → Image m A → Image m′ (movedOn A) → (q : ℕ) → q < 7 → (q ≡ 3 → ⊥) → word 4 m′ (4 * q) ≡ word 4 m (4 * q)
 unfolding headerAt
 header-words m m′ A i j zero l n = ap (λ (h : Header). h .mark) (j .header) ∙ sym (ap (λ (h : Header). h .mark) (i .header))
 header-words m m′ A i j (suc zero) l n = ap (λ (h : Header). h .limit) (j .header) ∙ sym (ap (λ (h : Header). h .limit) (i .header))
@@ -42,13 +42,13 @@ header-words m m′ A i j (suc (suc (suc (suc (suc (suc zero)))))) l n = ap (λ 
 header-words m m′ A i j (suc (suc (suc (suc (suc (suc (suc q))))))) l n = absurd (omega arith)
 
 -- bytes 12 to 15 alone
-pub position-alone : (m m′ : List ℕ) (A : Arrangement) → Image m A → Image m′ (onward A) → Within positionFrom positionTo m m′
+pub position-alone : (m m′ : List ℕ) (A : Arrangement) → Image m A → Image m′ (movedOn A) → Within positionFrom positionTo m m′
 position-alone m m′ A i j = record { size = j .size ∙ sym (i .size); others = others }
   where
-    same : m′ ≡ putHeader m (headerOf (onward A))
+    same : m′ ≡ putHeader m (headerOf (movedOn A))
     same =
-        one-image m′ (putHeader m (headerOf (onward A))) (onward A) j
-        (image-of m (onward A) (onward-arranged A (omega (arith, j .arranged .lawful .last)) (i .arranged)) (i .size) (i .bytes) (i .zeros) (i .tree) (i .free))
+        one-image m′ (putHeader m (headerOf (movedOn A))) (movedOn A) j
+        (image-of m (movedOn A) (onward-arranged A (omega (arith, j .arranged .lawful .last)) (i .arranged)) (i .size) (i .bytes) (i .zeros) (i .tree) (i .free))
 
     others : (k : ℕ) → (k < positionFrom) ⊎ (positionTo ≤ k) → getD m′ k 0 ≡ getD m k 0
     others k apart = elim (decLt k 28) [
@@ -56,5 +56,5 @@ position-alone m m′ A i j = record { size = j .size ∙ sym (i .size); others 
           let q : k ≡ 4 * (k / 4) + k % 4 = omega arith in
           word-byte m m′ (k / 4) k (i .bytes) (j .bytes) (omega (arith, i .size)) (omega (arith, j .size))
           (header-words m m′ A i j (k / 4) (omega arith) (⊎-elim (λ (h : k < positionFrom). λ e. omega arith) (λ (h : positionTo ≤ k). λ e. omega arith) apart)) (omega arith) (omega arith)
-      | no g ↦ ap (λ (s : List ℕ). getD s k 0) same ∙ byte-header m (headerOf (onward A)) k (omega arith)
+      | no g ↦ ap (λ (s : List ℕ). getD s k 0) same ∙ byte-header m (headerOf (movedOn A)) k (omega arith)
     ]

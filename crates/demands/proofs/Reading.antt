@@ -17,7 +17,7 @@ use Rattle.log.specs.Walk.{Walks, ends, breaks, hands}
 use Rattle.log.proofs.Stands.{end-not-record, broken-not-record, same-next}
 use Rattle.meld.specs.declared.melding.Melded.{Melded}
 use Rattle.meld.specs.Melds.{Melds}
-use Rattle.demands.specs.Runs.{Melding, none-left, Reading, so-far, isOver}
+use Rattle.demands.specs.Runs.{Melding, none-left, ReadingOn, so-far, isOver}
 use Rattle.demands.proofs.Following.{AllBytes, no-bytes, more-bytes}
 
 -- A LOG'S PARTS ARE BYTES
@@ -51,11 +51,11 @@ pub record Front (log : List ℕ) (place : ℕ) (m : List ℕ) (xs : List Melded
 
 -- one record, where the walk hands out the same
 pub reading-front : {log : List ℕ} {place place′ : ℕ} {m m′ : List ℕ} {xs : List Melded} {parts : List (List ℕ)} {last : Cut}
-    → Reading log place m xs place′ m′ → Walks log place parts last → Front log place′ m xs m′ parts last
+    → ReadingOn log place m xs place′ m′ → Walks log place parts last → Front log place′ m xs m′ parts last
 reading-front so-far w = record { few = omega arith; melding = none-left; rest = w }
-reading-front (Reading.one-more l c h d t) (ends e) = end-not-record (sym e ∙ sym (c .case))
-reading-front (Reading.one-more l c h d t) (breaks e) = broken-not-record (sym e ∙ sym (c .case))
-reading-front {log = log} {place = place} {m = m} (Reading.one-more {next = next} {m′ = m₁} {a = a} {lent = lent} {part = part} l c h d t) (hands {next = other} {parts = parts} {last = last} e w) =
+reading-front (ReadingOn.one-more l c h d t) (ends e) = end-not-record (sym e ∙ sym (c .case))
+reading-front (ReadingOn.one-more l c h d t) (breaks e) = broken-not-record (sym e ∙ sym (c .case))
+reading-front {log = log} {place = place} {m = m} (ReadingOn.one-more {next = next} {m′ = m₁} {a = a} {lent = lent} {part = part} l c h d t) (hands {next = other} {parts = parts} {last = last} e w) =
     let same : other ≡ next = same-next (sym e ∙ sym (c .case)) in
     let bytes : now part ≡ partOf (Record other) log place = h .bytes ∙ ap (λ (s : List ℕ). partOf (cutAt s place) s place) l ∙ ap (λ (x : Cut). partOf x log place) e in
     let f = reading-front t (subst (λ (n : ℕ). Walks log n parts last) same w) in

@@ -25,7 +25,7 @@ use Rattle.writer.specs.declared.Written.{Written}
 use Rattle.writer.specs.Writer.{recordOf, writeOf}
 use Rattle.writer.specs.Writer as Writer
 use Rattle.rules.specs.State.{State}
-use Rattle.rules.specs.Verdict.{Verdict, committed, conflict, tooOld, noRoom, malformed, ahead, usedUp, answerOf, verdict, pointsOf, next, left}
+use Rattle.rules.specs.Verdict.{Verdict, committed, conflict, tooOld, noRoom, malformed, ahead, positionsUsedUp, verdictAnswer, verdict, pointsOf, next, left}
 use Rattle.pool.specs.Image.{Arrangement, Image, Fit, stateOf}
 use Rattle.pool.proofs.Fixed.{one-image}
 use Rattle.fit.proofs.Decided.{fit-or-not}
@@ -34,7 +34,7 @@ use Rattle.meld.specs.declared.melding.Melded.{Melded}
 use Rattle.meld.specs.After.{afterIn, leftIn}
 use Rattle.meld.specs.Melds.{Melds}
 use Rattle.meld.proofs.AfterState.{after-state}
-use Rattle.refresh.specs.Refreshed.{Outcome, RefreshIs}
+use Rattle.refresh.specs.Refreshed.{RefreshOutcome, RefreshIs}
 use Rattle.refresh.proofs.Only.{untouched}
 use Rattle.refresh.proofs.Output.{FrontIs, after-zero}
 use Rattle.demands.specs.Touches.{Within, positionFrom, positionTo, CreateTouches, MeldTouches, RefreshTouches, WriteTouches, ReadTouches}
@@ -84,7 +84,7 @@ next-N S ps tooOld = refl
 next-N S ps noRoom = refl
 next-N S ps malformed = refl
 next-N S ps ahead = refl
-next-N S ps usedUp = refl
+next-N S ps positionsUsedUp = refl
 
 module _ (m bytes : List ℕ) (lent : Bytes m) (b : Bytes bytes) (m′ : List ℕ) (x : Melded) (h : Melds m bytes m′ x) where
   -- an unfit pool
@@ -103,7 +103,7 @@ module _ (m bytes : List ℕ) (lent : Bytes m) (b : Bytes bytes) (m′ : List �
     -- by the verdict
     by-verdict : (v : Verdict) → verdict (stateOf A) (parse bytes) ≡ v → MeldTouches m (x .answer) m′
     unfolding afterIn
-    by-verdict v e = go v (ap (λ (y : Melded). y .answer) (h .fit A i .verdict-is) ∙ ap answerOf e) (subst (λ (w : Verdict). Image m′ (leftIn A (pointsOf (parse bytes)) w)) e (h .fit A i .leaves))
+    by-verdict v e = go v (ap (λ (y : Melded). y .answer) (h .fit A i .verdict-is) ∙ ap verdictAnswer e) (subst (λ (w : Verdict). Image m′ (leftIn A (pointsOf (parse bytes)) w)) e (h .fit A i .leaves))
       where
         number : {y z : Answer} → y ≡ z → y .number ≡ z .number
         number d = ap (λ (y : Answer). y .number) d
@@ -116,7 +116,7 @@ module _ (m bytes : List ℕ) (lent : Bytes m) (b : Bytes bytes) (m′ : List �
           commit = same-size;
         }
 
-        go : (v : Verdict) → x .answer ≡ answerOf v → Image m′ (leftIn A (pointsOf (parse bytes)) v) → MeldTouches m (x .answer) m′
+        go : (v : Verdict) → x .answer ≡ verdictAnswer v → Image m′ (leftIn A (pointsOf (parse bytes)) v) → MeldTouches m (x .answer) m′
         go committed d j = record {
           refusal = λ r. absurd (⊎-elim (λ (y : x .answer ≡ Names.unfitPool). omega (arith, number d, number y)) (λ (y : x .answer ≡ Names.positionsUsedUp). omega (arith, number d, number y)) r);
           abort = λ n. absurd (n d);
@@ -127,7 +127,7 @@ module _ (m bytes : List ℕ) (lent : Bytes m) (b : Bytes bytes) (m′ : List �
         go noRoom d j = onward-only 3 (number d) (λ e. omega arith) (λ e. omega arith) (position-alone m m′ A i j)
         go malformed d j = onward-only 4 (number d) (λ e. omega arith) (λ e. omega arith) (position-alone m m′ A i j)
         go ahead d j = onward-only 5 (number d) (λ e. omega arith) (λ e. omega arith) (position-alone m m′ A i j)
-        go usedUp d j = let e = one-image m′ m A j i in record { refusal = λ _. e; abort = λ _. within-nothing positionFrom positionTo m m′ e; commit = same-size }
+        go positionsUsedUp d j = let e = one-image m′ m A j i in record { refusal = λ _. e; abort = λ _. within-nothing positionFrom positionTo m m′ e; commit = same-size }
 
   pub meld-touches : MeldTouches m (x .answer) m′
   meld-touches = go (fit-or-not m lent)
@@ -138,18 +138,18 @@ module _ (m bytes : List ℕ) (lent : Bytes m) (b : Bytes bytes) (m′ : List �
 
 -- WRITE
 
-pub write-touches : (snapshot : ℕ) (l : Lists) (before : List ℕ) (w : Written) (after : List ℕ) → Writer.outcome w after ≡ writeOf (recordOf snapshot l) before → WriteTouches before w after
+pub write-touches : (snapshot : ℕ) (l : Lists) (before : List ℕ) (w : Written) (after : List ℕ) → Writer.writeOutcome w after ≡ writeOf (recordOf snapshot l) before → WriteTouches before w after
 unfolding writeOf
 write-touches snapshot l before w after h = go (recordOf snapshot l) h
   where
-    answer : (x : Writer.Outcome) → Writer.outcome w after ≡ x → (w ≡ x .written) × (after ≡ x .left)
-    answer x e = (ap (λ (o : Writer.Outcome). o .written) e, ap (λ (o : Writer.Outcome). o .left) e)
+    answer : (x : Writer.WriteOutcome) → Writer.writeOutcome w after ≡ x → (w ≡ x .written) × (after ≡ x .left)
+    answer x e = (ap (λ (o : Writer.WriteOutcome). o .written) e, ap (λ (o : Writer.WriteOutcome). o .left) e)
 
-    refusal : (a : Answer) → (w ≡ Writer.refused a) × (after ≡ before) → WriteTouches before w after
+    refusal : (a : Answer) → (w ≡ Writer.writeRefused a) × (after ≡ before) → WriteTouches before w after
     refusal a e = record { refusal = λ _. e .1; commit = within-nothing 0 (w .size) before after (e .1) }
 
     by-room : (r : Rec) (b : Bool) → leb (length (bytesOf r)) (length before) ≡ b
-        → Writer.outcome w after ≡ cond b (Writer.outcome (record { answer = Names.committed; size = length (bytesOf r) }) (front (bytesOf r) before)) (Writer.outcome (Writer.refused Names.outputShort) before)
+        → Writer.writeOutcome w after ≡ cond b (Writer.writeOutcome (record { answer = Names.committed; size = length (bytesOf r) }) (front (bytesOf r) before)) (Writer.writeOutcome (Writer.writeRefused Names.outputShort) before)
         → WriteTouches before w after
     by-room r false t e = refusal Names.outputShort (answer _ e)
     by-room r true t e =
@@ -160,18 +160,18 @@ write-touches snapshot l before w after h = go (recordOf snapshot l) h
               (subst (λ (n : ℕ). Within 0 n before (front (bytesOf r) before)) (sym (ap (λ (o : Written). o .size) x)) (within-front (bytesOf r) before (leb-true (length (bytesOf r)) (length before) t)));
         }
 
-    go : (o : Option Rec) → Writer.outcome w after ≡ writeOf o before → WriteTouches before w after
+    go : (o : Option Rec) → Writer.writeOutcome w after ≡ writeOf o before → WriteTouches before w after
     go none e = refusal Names.malformed (answer _ e)
     go (some r) e = by-room r (leb (length (bytesOf r)) (length before)) refl e
 
 -- READ
 
-pub read-touches : (bytes : List ℕ) (before : Lists) (r : Reading) (after : Lists) → Reader.outcome r after ≡ readOf (parse bytes) before → ReadTouches before r after
+pub read-touches : (bytes : List ℕ) (before : Lists) (r : Reading) (after : Lists) → Reader.readOutcome r after ≡ readOf (parse bytes) before → ReadTouches before r after
 unfolding readOf
 read-touches bytes before r after h = go (parse bytes) h
   where
-    answer : (x : Reader.Outcome) → Reader.outcome r after ≡ x → (r ≡ x .reading) × (after ≡ x .left)
-    answer x e = (ap (λ (o : Reader.Outcome). o .reading) e, ap (λ (o : Reader.Outcome). o .left) e)
+    answer : (x : Reader.ReadOutcome) → Reader.readOutcome r after ≡ x → (r ≡ x .reading) × (after ≡ x .left)
+    answer x e = (ap (λ (o : Reader.ReadOutcome). o .reading) e, ap (λ (o : Reader.ReadOutcome). o .left) e)
 
     refusal : after ≡ before → ReadTouches before r after
     refusal e = record {
@@ -190,7 +190,7 @@ read-touches bytes before r after h = go (parse bytes) h
         subst (λ (s : List ℕ). Within 0 k l s) (sym e) (subst (λ (j : ℕ). Within 0 j l (front (map f es) l)) size (within-front (map f es) l (omega (arith, length-map es f))))
 
     by-room : (q : Rec) (b : Bool) → roomy q before ≡ b
-        → Reader.outcome r after ≡ cond b (Reader.outcome (record { answer = Names.committed; snapshot = q .snapshot; points = length (q .points); scans = length (q .scans) }) (Reader.filled q before)) (Reader.outcome (Reader.refused Names.outputShort) before)
+        → Reader.readOutcome r after ≡ cond b (Reader.readOutcome (record { answer = Names.committed; snapshot = q .snapshot; points = length (q .points); scans = length (q .scans) }) (Reader.filled q before)) (Reader.readOutcome (Reader.readRefused Names.outputShort) before)
         → ReadTouches before r after
     by-room q false t e = refusal (answer _ e .1)
     by-room q true t e =
@@ -208,7 +208,7 @@ read-touches bytes before r after h = go (parse bytes) h
           highs = filled-within highOf (q .scans) (before .highs) (after .highs) (r .scans) (ap (λ (o : Reading). o .scans) x) (leb-true _ _ k₅) (ap (λ (l : Lists). l .highs) y);
         }))))
 
-    go : (o : Option Rec) → Reader.outcome r after ≡ readOf o before → ReadTouches before r after
+    go : (o : Option Rec) → Reader.readOutcome r after ≡ readOf o before → ReadTouches before r after
     go none e = refusal (answer _ e .1)
     go (some q) e = by-room q (roomy q before) refl e
 
@@ -238,4 +238,4 @@ module _ (m original before : List ℕ) (lent : Bytes m) (b : Bytes original) (a
           let A = f .arrangement in
           front-within (A .p) (after-zero (stateOf A) (f .image .arranged .lawful .last) original before b a after (h .fit A (f .image)) z)
       go (yes f) (no n) = within-nothing 0 (length original) before after (untouched m original before a after h n)
-      go (no u) d = within-nothing 0 (length original) before after (ap (λ (o : Outcome). o .output) (h .unfit u))
+      go (no u) d = within-nothing 0 (length original) before after (ap (λ (o : RefreshOutcome). o .output) (h .unfit u))

@@ -16,7 +16,7 @@ use Rattle.record.specs.Parse.{parse}
 use Rattle.log.specs.declared.found.Cut.{Cut}
 use Rattle.log.specs.Walk.{Walks}
 use Rattle.rules.specs.State.{State, Lawful, fresh}
-use Rattle.rules.specs.Verdict.{Verdict, committed, conflict, tooOld, noRoom, malformed, ahead, usedUp, answerOf, verdict}
+use Rattle.rules.specs.Verdict.{Verdict, committed, conflict, tooOld, noRoom, malformed, ahead, positionsUsedUp, verdictAnswer, verdict}
 use Rattle.rules.specs.Log.{WellFormed, after, commits}
 use Rattle.rules.specs.Lookup.{seen, lookup}
 use Rattle.rules.specs.Demands.{Passes, lastWrite}
@@ -39,14 +39,14 @@ parsed-well-formed (more-bytes {bytes = bytes} b bs) r (here e) = parsed-valid b
 parsed-well-formed (more-bytes b bs) r (there m) = parsed-well-formed bs r m
 
 -- only one verdict has the number 0
-zero-is-committed : (v : Verdict) → answerOf v ≡ Names.committed → v ≡ committed
+zero-is-committed : (v : Verdict) → verdictAnswer v ≡ Names.committed → v ≡ committed
 zero-is-committed committed e = refl
 zero-is-committed conflict e = absurd (omega (arith, ap (λ (a : Answer). a .number) e))
 zero-is-committed tooOld e = absurd (omega (arith, ap (λ (a : Answer). a .number) e))
 zero-is-committed noRoom e = absurd (omega (arith, ap (λ (a : Answer). a .number) e))
 zero-is-committed malformed e = absurd (omega (arith, ap (λ (a : Answer). a .number) e))
 zero-is-committed ahead e = absurd (omega (arith, ap (λ (a : Answer). a .number) e))
-zero-is-committed usedUp e = absurd (omega (arith, ap (λ (a : Answer). a .number) e))
+zero-is-committed positionsUsedUp e = absurd (omega (arith, ap (λ (a : Answer). a .number) e))
 
 -- the pool after q records of a log whose walk hands out these parts
 module _ (N Z : ℕ) (log : List ℕ) (lent : Bytes log) (parts : List (List ℕ)) (last : Cut) (w : Walks log 0 parts last) (q : ℕ) (m : List ℕ) (at-q : PoolAt N Z log q m) where
@@ -69,7 +69,7 @@ module _ (N Z : ℕ) (log : List ℕ) (lent : Bytes log) (parts : List (List ℕ
         let e = ap (λ (y : Melded). y .answer) (meld-means (after (fresh N Z) past) pool-means b h .0) in
         let c = commits-exactly N Z past (parse bytes) in (
           λ z. c .0 (zero-is-committed (verdict (after (fresh N Z) past) (parse bytes)) (sym e ∙ z)),
-          λ p. e ∙ ap answerOf (c .1 p),
+          λ p. e ∙ ap verdictAnswer (c .1 p),
         )
 
     -- its looks are at most 65 + 64·(points + 2·scans)

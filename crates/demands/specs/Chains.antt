@@ -8,7 +8,7 @@ use denote.Ref.{RefT, now}
 use Rattle.record.specs.declared.answer.Answer.{Answer}
 use Rattle.record.specs.Answer.{committed, conflict}
 use Rattle.refresh.specs.Refreshed.{RefreshIs}
-use Rattle.force.specs.Force.{InForce}
+use Rattle.in_force.specs.InForce.{InForce}
 use Rattle.meld.specs.declared.melding.Melded.{Melded}
 use Rattle.meld.specs.Melds.{Melds}
 use Rattle.demands.specs.Runs.{PoolAt}

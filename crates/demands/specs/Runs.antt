@@ -37,18 +37,18 @@ pub data Melding : List ℕ → List (List ℕ) → List Melded → List ℕ →
 
 -- from a place of a log and a pool on, some records are cut out of the log by `cut` and `part` and melded: what each call answers,
 -- and the place and the pool then
-pub data Reading (log : List ℕ) : ℕ → List ℕ → List Melded → ℕ → List ℕ → Type 0 where
-  so-far : {place : ℕ} {m : List ℕ} → Reading log place m [] place m
+pub data ReadingOn (log : List ℕ) : ℕ → List ℕ → List Melded → ℕ → List ℕ → Type 0 where
+  so-far : {place : ℕ} {m : List ℕ} → ReadingOn log place m [] place m
   one-more : {place next place′ : ℕ} {m m′ m″ : List ℕ} {a : Melded} {xs : List Melded} {lent part : RefT (List ℕ)}
       → now lent ≡ log → CutIs log place (Record next) → HandedOut lent place part → Melds m (now part) m′ a
-      → Reading log next m′ xs place′ m″ → Reading log place m (a ∷ xs) place′ m″
+      → ReadingOn log next m′ xs place′ m″ → ReadingOn log place m (a ∷ xs) place′ m″
 
 -- a card: bytes lent, whatever they hold, made a pool by `create`, then records of a log melded into it from the log's start on
 pub record Card (N Z : ℕ) (log : List ℕ) (xs : List Melded) (place : ℕ) (m : List ℕ) : Type 0 where
   pub lent : List ℕ
   pub new : List ℕ
   pub created : Created lent N Z committed new
-  pub read : Reading log 0 new xs place m
+  pub read : ReadingOn log 0 new xs place m
 
 -- the pool of a card after the first q records of a log
 pub record PoolAt (N Z : ℕ) (log : List ℕ) (q : ℕ) (m : List ℕ) : Type 0 where

@@ -19,7 +19,7 @@ use Rattle.pool.specs.Image.{Arrangement, Arranged, treeOr, numbersOr, stateOf}
 use Rattle.pool.specs.Times.{times}
 use Rattle.pool.proofs.Numbers.{times-append, distinct-times, times-distinct, below-times, times-below}
 use Rattle.drop.specs.Old.{old, stays}
-use Rattle.drop.specs.Drop.{dropTree, freedTree, dropIn, onward}
+use Rattle.drop.specs.Drop.{dropTree, freedTree, dropIn, movedOn}
 use Rattle.drop.proofs.Olds.{keep-young, old-or-stays}
 use Rattle.drop.proofs.Plans.{drop-tree, drop-times, drop-length}
 
@@ -90,11 +90,11 @@ drop-arranged limit A g = record {
 -- ONE POSITION ON
 
 -- the state is the one that the rules leave where nothing is stored
-pub onward-state : (A : Arrangement) → stateOf (onward A) ≡ step (stateOf A) (stateOf A .kept)
+pub onward-state : (A : Arrangement) → stateOf (movedOn A) ≡ step (stateOf A) (stateOf A .kept)
 onward-state A = refl
 
 -- it is an arrangement again
-pub onward-arranged : (A : Arrangement) → A .p < lastPosition → Arranged A → Arranged (onward A)
+pub onward-arranged : (A : Arrangement) → A .p < lastPosition → Arranged A → Arranged (movedOn A)
 onward-arranged A h g = record {
   lawful = record {
     limit-N = g .lawful .limit-N;

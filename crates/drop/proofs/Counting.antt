@@ -19,7 +19,7 @@ use Rattle.pool.specs.Times.{times}
 use Rattle.pool.proofs.Numbers.{times-append, below-mem}
 use Rattle.pool.proofs.Frame.{root-holds, root-in}
 use Rattle.drop.specs.Old.{old}
-use Rattle.drop.specs.Spot.{top, Stands, Standing, UpTo, Counted}
+use Rattle.drop.specs.Spot.{top, StandsBelow, Standing, UpTo, Counted}
 use Rattle.drop.proofs.Olds.{live-stays, tombstone-old, none-old, old-few}
 use Rattle.drop.proofs.Fitting.{below-part, image-stands}
 use Rattle.drop.proofs.Roots.{IsInner, root-oldest, root-height, as-tombstone, as-live, as-inner}
@@ -27,21 +27,21 @@ use Rattle.drop.proofs.Roots.{IsInner, root-oldest, root-height, as-tom
 -- A NODE OF THE TREE
 
 -- the root lies in the bytes
-pub stands-room : (m : List ℕ) (n : ℕ) (T : Plan) → Stands m n T → base (number T) + 32 ≤ length m
+pub stands-room : (m : List ℕ) (n : ℕ) (T : Plan) → StandsBelow m n T → base (number T) + 32 ≤ length m
 stands-room m n T s = let b = below-mem (s .below) (root-in T) in omega (arith, s .room)
 
 -- so does node i
 pub standing-room : (m : List ℕ) (i : ℕ) → Standing m i → base i + 32 ≤ length m
 standing-room m i g = subst (λ (j : ℕ). base j + 32 ≤ length m) (g .at) (stands-room m (g .count) (g .tree) (g .stands))
 
-module _ (m : List ℕ) (n i h low : ℕ) (l r : Plan) (s : Stands m n (node i h low l r)) where
+module _ (m : List ℕ) (n i h low : ℕ) (l r : Plan) (s : StandsBelow m n (node i h low l r)) where
   -- the keys of both sides are few together
   both : length (entries (treeIn l)) + length (entries (treeIn r)) ≤ 65536
   unfolding entries
   both = omega (arith, s .few, length-append (entries (treeIn l)) (entries (treeIn r)))
 
   -- each side stands by itself
-  pub stands-left : Stands m n l
+  pub stands-left : StandsBelow m n l
   stands-left = record {
     small = s .small;
     room = s .room;
@@ -52,7 +52,7 @@ module _ (m : List ℕ) (n i h low : ℕ) (l r : Plan) (s : Stands m n (node i h
   }
 
   -- the right side too
-  pub stands-right : Stands m n r
+  pub stands-right : StandsBelow m n r
   stands-right = record {
     small = s .small;
     room = s .room;
@@ -70,7 +70,7 @@ exactly most l e = record { at-most = l; counted = omega arith; all = λ _. e }
 
 module _ (m : List ℕ) (i limit : ℕ) (x : Node) (a : x ≡ nodeAt m i) where
   -- the node read is the tree's root
-  word-of : (n : ℕ) (T : Plan) → number T ≡ i → Stands m n T → x ≡ rootNode T
+  word-of : (n : ℕ) (T : Plan) → number T ≡ i → StandsBelow m n T → x ≡ rootNode T
   word-of n T at s = a ∙ ap (λ (j : ℕ). nodeAt m j) (sym at) ∙ root-holds T m (s .holds)
 
   -- the oldest tombstone is above the limit: nothing is old
@@ -96,7 +96,7 @@ module _ (m : List ℕ) (i limit : ℕ) (x : Node) (a : x ≡ nodeAt m i) where
 
   module _ (p : x .kind ≢ 2) (q : x .kind ≢ 1) where
     -- any other node has two sides
-    inner : (n : ℕ) (T : Plan) → number T ≡ i → Stands m n T → IsInner i T
+    inner : (n : ℕ) (T : Plan) → number T ≡ i → StandsBelow m n T → IsInner i T
     inner n T at s = as-inner i T at (λ e. q (ap (λ (y : Node). y .kind) (word-of n T at s) ∙ e)) (λ e. p (ap (λ (y : Node). y .kind) (word-of n T at s) ∙ e))
 
     -- an inner node's sides, with what was known of the whole
@@ -106,11 +106,11 @@ module _ (m : List ℕ) (i limit : ℕ) (x : Node) (a : x ≡ nodeAt m i) where
       pub left : Plan
       pub right : Plan
       pub is : T ≡ node i height low left right
-      pub stands : Stands m n (node i height low left right)
+      pub stands : StandsBelow m n (node i height low left right)
       pub word : x ≡ rootNode (node i height low left right)
 
     -- every tree at node i is of this form
-    opened : (n : ℕ) (T : Plan) → number T ≡ i → Stands m n T → Opened n T
+    opened : (n : ℕ) (T : Plan) → number T ≡ i → StandsBelow m n T → Opened n T
     opened n T at s =
         let o = inner n T at s in
         record {
@@ -119,7 +119,7 @@ module _ (m : List ℕ) (i limit : ℕ) (x : Node) (a : x ≡ nodeAt m i) where
           left = o .left;
           right = o .right;
           is = o .is;
-          stands = subst (λ (T : Plan). Stands m n T) (o .is) s;
+          stands = subst (λ (T : Plan). StandsBelow m n T) (o .is) s;
           word = word-of n T at s ∙ ap rootNode (o .is);
         }
 

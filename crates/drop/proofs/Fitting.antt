@@ -13,7 +13,7 @@ use Rattle.pool.specs.Plan.{Plan, node, number, numbers}
 use Rattle.pool.specs.Image.{Arrangement, Arranged, Image, AllBelow, Distinct, HoldsTree, treeOr, numbersOr}
 use Rattle.pool.specs.Times.{times}
 use Rattle.pool.proofs.Numbers.{times-append, below-times, times-below}
-use Rattle.drop.specs.Spot.{top, Falling, Stands, Spot}
+use Rattle.drop.specs.Spot.{top, Falling, StandsBelow, Spot}
 
 -- PARTS OF A LIST OF NUMBERS
 
@@ -46,7 +46,7 @@ module _ (m : List ℕ) (A : Arrangement) (T : Plan) (g : Image m A) (e : A .tre
   lists = subst (λ (X : Option Plan). AllBelow (2 * A .N) (numbersOr X ++ A .free) × Distinct (numbersOr X ++ A .free) × (length (numbersOr X ++ A .free) ≡ 2 * A .N)) e (g .arranged .below, g .arranged .distinct, g .arranged .all)
 
   -- it stands in the bytes
-  pub image-stands : Stands m (2 * A .N) T
+  pub image-stands : StandsBelow m (2 * A .N) T
   image-stands = record {
     small = omega (arith, g .arranged .lawful .limit-N);
     room = omega (arith, g .size);

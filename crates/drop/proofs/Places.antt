@@ -15,7 +15,7 @@ use Rattle.pool.specs.Image.{firstOf}
 use Rattle.pool.proofs.Frame.{root-holds, root-in}
 use Rattle.drop.specs.Old.{old}
 use Rattle.drop.specs.Drop.{dropPlan, freed}
-use Rattle.drop.specs.Spot.{top, mended, Freed, Rooms, Spot, Ready, Dropped, Drops}
+use Rattle.drop.specs.Spot.{top, mended, FreedNode, Rooms, Spot, DropReady, Dropped, Drops}
 use Rattle.drop.proofs.Olds.{live-stays, tombstone-old}
 use Rattle.drop.proofs.Plans.{drop-none, freed-none}
 use Rattle.drop.proofs.Roots.{root-oldest, root-height, as-tombstone, as-live, as-inner}
@@ -23,15 +23,15 @@ use Rattle.drop.proofs.Spots.{tree-room, fits-in, drop-same, drop-leaf,
 use Rattle.drop.proofs.Dropping.{free-asks, left-gone, right-gone, mend-asks, both-stay}
 
 -- node i lies in the bytes
-pub ready-room : (m : List ℕ) (i f k : ℕ) → Ready m i f k → base i + 32 ≤ length m
+pub ready-room : (m : List ℕ) (i f k : ℕ) → DropReady m i f k → base i + 32 ≤ length m
 ready-room m i f k g = subst (λ (j : ℕ). base j + 32 ≤ length m) (g .at) (tree-room (g .spot) (root-in (g .tree)))
 
 -- and can be freed
-pub ready-asks : (m : List ℕ) (i f k : ℕ) → Ready m i f k → (base i + 32 ≤ length m) × (k < 4294967295)
+pub ready-asks : (m : List ℕ) (i f k : ℕ) → DropReady m i f k → (base i + 32 ≤ length m) × (k < 4294967295)
 ready-asks m i f k g = (ready-room m i f k g, omega (arith, g .rank, fits-in (g .spot), g .spot .small))
 
 -- node i was freed last
-after-freed : {m m′ : List ℕ} {T : Plan} {F : List ℕ} {limit i root f k : ℕ} {m″ : List ℕ} {root′ f′ k′ : ℕ} → Freed m′ i root f k m″ root′ f′ k′
+after-freed : {m m′ : List ℕ} {T : Plan} {F : List ℕ} {limit i root f k : ℕ} {m″ : List ℕ} {root′ f′ k′ : ℕ} → FreedNode m′ i root f k m″ root′ f′ k′
     → Dropped m limit T F (putNode m′ i (freeNode f (k + 1))) root i (k + 1) → Dropped m limit T F m″ root′ f′ k′
 after-freed g d = rw (g .bytes-are, g .root-is, g .first-is, g .rank-is) d
 
@@ -58,7 +58,7 @@ module _ (m : List ℕ) (i limit f k : ℕ) (x : Node) (a : x ≡ nodeAt m i) wh
       drop-same limit i f k q at first rank p g
 
   -- a tombstone at or below the limit goes
-  pub drop-tombstone : x .oldest ≤ limit → x .kind ≡ 2 → (m′ : List ℕ) (r′ f′ k′ : ℕ) → Freed m i noNode f k m′ r′ f′ k′ → Drops m i limit f k m′ r′ f′ k′
+  pub drop-tombstone : x .oldest ≤ limit → x .kind ≡ 2 → (m′ : List ℕ) (r′ f′ k′ : ℕ) → FreedNode m i noNode f k m′ r′ f′ k′ → Drops m i limit f k m′ r′ f′ k′
   unfolding oldest
   drop-tombstone h z m′ r′ f′ k′ g n T F at first rank q =
       let o = as-tombstone i T at (ap (λ (y : Node). y .kind) (sym (word-of at q)) ∙ z) in
@@ -104,7 +104,7 @@ module _ (m : List ℕ) (i limit f k : ℕ) (x : Node) (a : x ≡ nodeAt m i) wh
         omega arith
 
     -- the left child's turn
-    pub asks-left : Ready m i f k → (t : ℕ) → nodeAt m i .height ≡ t → (nodeAt m (x .left) .height < t) × Ready m (x .left) f k
+    pub asks-left : DropReady m i f k → (t : ℕ) → nodeAt m i .height ≡ t → (nodeAt m (x .left) .height < t) × DropReady m (x .left) f k
     asks-left g t u =
         let o = opened (g .count) (g .tree) (g .list) (g .at) (g .spot) in
         let s = left-spot m (g .count) i (o .height) (o .low) (o .left) (o .right) (g .list) (o .spot) in
@@ -120,7 +120,7 @@ module _ (m : List ℕ) (i limit f k : ℕ) (x : Node) (a : x ≡ nodeAt m i) wh
           d1 n (o .left) F (ap (λ (y : Node). y .left) (sym (o .word))) first rank (left-spot m n i (o .height) (o .low) (o .left) (o .right) F (o .spot))
 
       -- then the right child's
-      pub asks-right : Ready m i f k → (t : ℕ) → nodeAt m i .height ≡ t → (nodeAt m1 (x .right) .height < t) × Ready m1 (x .right) f1 k1
+      pub asks-right : DropReady m i f k → (t : ℕ) → nodeAt m i .height ≡ t → (nodeAt m1 (x .right) .height < t) × DropReady m1 (x .right) f1 k1
       asks-right g t u =
           let o = opened (g .count) (g .tree) (g .list) (g .at) (g .spot) in
           let d = one o (g .first) (g .rank) in
@@ -139,26 +139,26 @@ module _ (m : List ℕ) (i limit f k : ℕ) (x : Node) (a : x ≡ nodeAt m i) wh
             (right-spot m n i (o .height) (o .low) (o .left) (o .right) F (o .spot) limit m1 r1 f1 k1 d)
 
         -- node i can be freed
-        pub asks-free : Ready m i f k → (base i + 32 ≤ length m2) × (k2 < 4294967295)
+        pub asks-free : DropReady m i f k → (base i + 32 ≤ length m2) × (k2 < 4294967295)
         asks-free g =
             let o = opened (g .count) (g .tree) (g .list) (g .at) (g .spot) in
             free-asks m (g .count) i (o .height) (o .low) (o .left) (o .right) (g .list) (o .spot) limit m1 r1 f1 k1 (one o (g .first) (g .rank)) m2 r2 f2 k2 (two o (g .first) (g .rank))
 
         -- node i can be mended
-        pub asks-mend : Ready m i f k → r1 ≢ noNode → r2 ≢ noNode → Rooms m2 i r1 r2
+        pub asks-mend : DropReady m i f k → r1 ≢ noNode → r2 ≢ noNode → Rooms m2 i r1 r2
         asks-mend g y v =
             let o = opened (g .count) (g .tree) (g .list) (g .at) (g .spot) in
             let s = mend-asks m (g .count) i (o .height) (o .low) (o .left) (o .right) (g .list) (o .spot) limit m1 r1 f1 k1 (one o (g .first) (g .rank)) m2 r2 f2 k2 (two o (g .first) (g .rank)) y v in
             record { node-room = s .0; left-room = s .1; right-room = s .2 }
 
         -- the left side has gone
-        pub drop-left : r1 ≡ noNode → (m′ : List ℕ) (r′ f′ k′ : ℕ) → Freed m2 i r2 f2 k2 m′ r′ f′ k′ → Drops m i limit f k m′ r′ f′ k′
+        pub drop-left : r1 ≡ noNode → (m′ : List ℕ) (r′ f′ k′ : ℕ) → FreedNode m2 i r2 f2 k2 m′ r′ f′ k′ → Drops m i limit f k m′ r′ f′ k′
         drop-left y m′ r′ f′ k′ g n T F at first rank q =
             let o = opened n T F at q in
             rw (o .is) (after-freed g (left-gone m n i (o .height) (o .low) (o .left) (o .right) F (o .spot) limit m1 r1 f1 k1 (one o first rank) m2 r2 f2 k2 (two o first rank) y))
 
         -- the right side has gone
-        pub drop-right : r1 ≢ noNode → r2 ≡ noNode → (m′ : List ℕ) (r′ f′ k′ : ℕ) → Freed m2 i r1 f2 k2 m′ r′ f′ k′ → Drops m i limit f k m′ r′ f′ k′
+        pub drop-right : r1 ≢ noNode → r2 ≡ noNode → (m′ : List ℕ) (r′ f′ k′ : ℕ) → FreedNode m2 i r1 f2 k2 m′ r′ f′ k′ → Drops m i limit f k m′ r′ f′ k′
         drop-right y v m′ r′ f′ k′ g n T F at first rank q =
             let o = opened n T F at q in
             rw (o .is) (after-freed g (right-gone m n i (o .height) (o .low) (o .left) (o .right) F (o .spot) limit m1 r1 f1 k1 (one o first rank) m2 r2 f2 k2 (two o first rank) y v))

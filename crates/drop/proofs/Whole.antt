@@ -16,8 +16,8 @@ use Rattle.pool.specs.Plan.{Plan, number, numbers, noNode}
 use Rattle.pool.specs.Image.{Arrangement, Image, Fit, HoldsTree, HoldsFree, firstOf, treeOr, rootOr, numbersOr, headerOf, AllBelow}
 use Rattle.pool.proofs.Numbers.{below-mem}
 use Rattle.pool.proofs.Frame.{frame-front, root-in}
-use Rattle.drop.specs.Drop.{dropPlan, dropTree, freed, freedTree, dropIn, onward, PositionsLeft}
-use Rattle.drop.specs.Spot.{Spot, Ready, Dropped, Drops}
+use Rattle.drop.specs.Drop.{dropPlan, dropTree, freed, freedTree, dropIn, movedOn, PositionsLeft}
+use Rattle.drop.specs.Spot.{Spot, DropReady, Dropped, Drops}
 use Rattle.drop.proofs.Plans.{drop-length}
 use Rattle.drop.proofs.Arranging.{drop-arranged, onward-arranged}
 use Rattle.drop.proofs.Fitting.{image-spot}
@@ -93,7 +93,7 @@ module _ (m : List ℕ) (limit : ℕ) (h : Header) (e : h ≡ headerAt m) where
             }
 
     -- so the recursion can start
-    pub ready : Fit m → Ready m (h .root) (h .free) (x .newest)
+    pub ready : Fit m → DropReady m (h .root) (h .free) (x .newest)
     ready g =
         let o = kept (g .arrangement) (g .image) in
         record { count = 2 * g .arrangement .N; tree = o .plan; list = g .arrangement .free; at = o .at; first = o .first; rank = o .rank; spot = o .spot }
@@ -157,12 +157,12 @@ module _ (m : List ℕ) (h : Header) (e : h ≡ headerAt m) (g : PositionsLeft m
 
   -- the bytes are the image of the arrangement one position on
   pub advance-whole : (m1 : List ℕ) → m1 ≡ putHeader m (record { mark = h .mark; limit = h .limit; zone = h .zone; position = h .position + 1; kept = h .kept; root = h .root; free = h .free })
-      → (A : Arrangement) → Image m A → Image m1 (onward A)
+      → (A : Arrangement) → Image m A → Image m1 (movedOn A)
   advance-whole m1 w A i =
       let s : A .p < lastPosition = omega (arith, position-is A i, position-is (g .arrangement) (g .image), g .more) in
-      let k : record { mark = h .mark; limit = h .limit; zone = h .zone; position = h .position + 1; kept = h .kept; root = h .root; free = h .free } ≡ headerOf (onward A) =
+      let k : record { mark = h .mark; limit = h .limit; zone = h .zone; position = h .position + 1; kept = h .kept; root = h .root; free = h .free } ≡ headerOf (movedOn A) =
       ap moved (e ∙ i .header) in
-      rw (w, k) (image-of m (onward A) (onward-arranged A s (i .arranged)) (i .size) (i .bytes) (i .zeros) (i .tree) (i .free))
+      rw (w, k) (image-of m (movedOn A) (onward-arranged A s (i .arranged)) (i .size) (i .bytes) (i .zeros) (i .tree) (i .free))
     where
       moved : Header → Header
       moved x = record { mark = x .mark; limit = x .limit; zone = x .zone; position = x .position + 1; kept = x .kept; root = x .root; free = x .free }

@@ -52,8 +52,8 @@ dropIn limit A =
     }
 
 -- the arrangement one position on
-abbrev pub onward : Arrangement → Arrangement
-onward A =
+abbrev pub movedOn : Arrangement → Arrangement
+movedOn A =
     record {
       N = A .N;
       Z = A .Z;

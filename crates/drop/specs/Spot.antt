@@ -27,7 +27,7 @@ Falling (Tree.leaf e) = Unit
 Falling (Tree.node h low l r) = (top l < h) × (top r < h) × Falling l × Falling r
 
 -- the bytes hold a tree whose numbers are below n
-pub record Stands (m : List ℕ) (n : ℕ) (T : Plan) : Type 0 where
+pub record StandsBelow (m : List ℕ) (n : ℕ) (T : Plan) : Type 0 where
   pub small : n ≤ 131072
   pub room : base n ≤ length m
   pub holds : Holds m T
@@ -40,7 +40,7 @@ pub record Standing (m : List ℕ) (i : ℕ) : Type 0 where
   pub count : ℕ
   pub tree : Plan
   pub at : number tree ≡ i
-  pub stands : Stands m count tree
+  pub stands : StandsBelow m count tree
 
 -- r is k, or most where k is more
 pub record UpTo (most k r : ℕ) : Type 0 where
@@ -50,10 +50,10 @@ pub record UpTo (most k r : ℕ) : Type 0 where
 
 -- r is the number of old tombstones of whatever tree stands at node i, or most where there are more
 abbrev pub Counted : List ℕ → ℕ → ℕ → ℕ → ℕ → Type 0
-Counted m i limit most r = (n : ℕ) (T : Plan) → number T ≡ i → Stands m n T → UpTo most (length (keep (old limit) (entries (treeIn T)))) r
+Counted m i limit most r = (n : ℕ) (T : Plan) → number T ≡ i → StandsBelow m n T → UpTo most (length (keep (old limit) (entries (treeIn T)))) r
 
 -- node i has come to the front of the free nodes, of which f was the first and which were k in number
-pub record Freed (m : List ℕ) (i root f k : ℕ) (m′ : List ℕ) (root′ f′ k′ : ℕ) : Type 0 where
+pub record FreedNode (m : List ℕ) (i root f k : ℕ) (m′ : List ℕ) (root′ f′ k′ : ℕ) : Type 0 where
   pub bytes-are : m′ ≡ putNode m i (freeNode f (k + 1))
   pub root-is : root′ ≡ root
   pub first-is : f′ ≡ i
@@ -84,7 +84,7 @@ pub record Spot (m : List ℕ) (n : ℕ) (T : Plan) (F : List ℕ) : Type 0 wher
   pub fewer : length (numbers T ++ F) ≤ n
 
 -- some tree stands at node i, beside free nodes of which node f is the first and which are k in number
-pub record Ready (m : List ℕ) (i f k : ℕ) : Type 0 where
+pub record DropReady (m : List ℕ) (i f k : ℕ) : Type 0 where
   pub count : ℕ
   pub tree : Plan
   pub list : List ℕ

@@ -3,12 +3,12 @@ use nodes::Header;
 use nodes::read_header;
 use nodes::write_header;
 ghost use Rattle.pool.specs.Image.{Arrangement, Image};
-ghost use Rattle.drop.specs.Drop.{PositionsLeft, onward};
+ghost use Rattle.drop.specs.Drop.{PositionsLeft, movedOn};
 
 // The pool one position on. A position is left: p is below 4,294,967,295.
 pub fn advance(pool: &mut [u8])
     requires { ⌜ PositionsLeft (now pool) ⌝ }
-    ensures { λ _. ⌜ ((A : Arrangement) → Image (now (pool .entry)) A → Image (now (pool .exit)) (onward A)) ⌝ }
+    ensures { λ _. ⌜ ((A : Arrangement) → Image (now (pool .entry)) A → Image (now (pool .exit)) (movedOn A)) ⌝ }
 {
     let h = read_header(pool);
     let v = h.position + 1;

@@ -12,7 +12,7 @@ ghost use lib.ListN.{length};
 ghost use Rattle.nodes.specs.Nodes.{base};
 ghost use Rattle.pool.specs.Image.{Arrangement, Image, Fit};
 ghost use Rattle.drop.specs.Drop.{dropIn};
-ghost use Rattle.drop.specs.Spot.{Freed, Rooms, mended, Ready, Drops};
+ghost use Rattle.drop.specs.Spot.{FreedNode, Rooms, mended, DropReady, Drops};
 
 // What is left of a tree, and the free nodes then.
 struct Left {
@@ -41,7 +41,7 @@ fn smaller(x: u32, y: u32) -> u32
 // Node i comes to the front of the free nodes; root is what is left of the tree.
 fn free_node(pool: &mut [u8], i: u32, root: u32, free: u32, rank: u32) -> Left
     requires { ⌜ (base i + 32 ≤ length (now pool)) × (rank < 4294967295) ⌝ }
-    ensures { λ r. ⌜ Freed (now (pool .entry)) i root free rank (now (pool .exit)) (r .root) (r .free) (r .rank) ⌝ }
+    ensures { λ r. ⌜ FreedNode (now (pool .entry)) i root free rank (now (pool .exit)) (r .root) (r .free) (r .rank) ⌝ }
 {
     let more = rank + 1;
     write_node(
@@ -90,7 +90,7 @@ fn mend(pool: &mut [u8], i: u32, height: u32, low: u32, left: u32, right: u32)
 
 // Drops the old tombstones of the tree at node i.
 fn drop_below(pool: &mut [u8], i: u32, limit: u32, free: u32, rank: u32) -> Left
-    requires { ⌜ Ready (now pool) i free rank ⌝ }
+    requires { ⌜ DropReady (now pool) i free rank ⌝ }
     ensures { λ r. ⌜ Drops (now (pool .entry)) i limit free rank (now (pool .exit)) (r .root) (r .free) (r .rank) ⌝ }
 {
     let n = read_node(pool, i);

@@ -15,7 +15,7 @@ use Rattle.rules.proofs.Tests.{is-true, yes-eq, no-eq}
 use Rattle.rules.proofs.Trees.{canonical-rising}
 use Rattle.pool.specs.Plan.{Plan, leaf, node, treeIn, leafNode, noNode}
 use Rattle.pool.specs.Image.{Arrangement, Image, Fit, stateOf}
-use Rattle.pool.specs.Subtree.{Stands, Rooted}
+use Rattle.pool.specs.Subtree.{StandsAt, Rooted}
 use Rattle.pool.proofs.Subtree.{halved, node-reads, leaf-height, leaf-low, stands-left, stands-right, inner, rooted-spans}
 use Rattle.pool.proofs.Root.{no-root, some-root, root-rooted}
 use Rattle.find.specs.declared.Found.{Found}
@@ -69,7 +69,7 @@ leaf-live k n x s d p e q = go (e .payload) q ∙ leaf-key k e (sym low ∙ s)
 
 -- r is what the tree at node i says of the key
 abbrev pub Answers : List ℕ → ℕ → ℕ → Found → Type 0
-Answers m i k r = (T : Plan) → Stands m i T → r ≡ foundIn k (entries (treeIn T))
+Answers m i k r = (T : Plan) → StandsAt m i T → r ≡ foundIn k (entries (treeIn T))
 
 -- an inner node splits at one of 32 bits
 pub inner-height : (m : List ℕ) (i : ℕ) (n : Node) → n ≡ nodeAt m i → (n .height ≡ 0 → ⊥) → Rooted m i → (1 ≤ n .height) × (n .height ≤ 32)
@@ -131,7 +131,7 @@ module _ (m : List ℕ) (k : ℕ) (h : Header) (e : h ≡ headerAt m) where
   pub at-root : (r : Found) → (h .root ≡ noNode → ⊥) → Answers m (h .root) k r → (A : Arrangement) → Image m A → r ≡ foundIn k (stateOf A .kept)
   at-root r d f A x =
       let y = some-root x (λ z. d (root-is ∙ z)) in
-      rw (y .1) (f (y .0) (subst (λ (j : ℕ). Stands m j (y .0)) (sym root-is) (y .2)))
+      rw (y .1) (f (y .0) (subst (λ (j : ℕ). StandsAt m j (y .0)) (sym root-is) (y .2)))
 
 -- the call for the whole tree
 pub root-there : (m : List ℕ) (h : Header) → h ≡ headerAt m → (h .root ≡ noNode → ⊥) → Fit m → Rooted m (h .root)

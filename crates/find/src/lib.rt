@@ -10,7 +10,7 @@ ghost use Rattle.rules.specs.State.{Entry};
 ghost use Rattle.rules.specs.Tree.{entries};
 ghost use Rattle.pool.specs.Plan.{Plan, treeIn, leafNode};
 ghost use Rattle.pool.specs.Image.{Arrangement, Image, Fit, stateOf};
-ghost use Rattle.pool.specs.Subtree.{Stands, Rooted};
+ghost use Rattle.pool.specs.Subtree.{StandsAt, Rooted};
 ghost use Rattle.find.specs.Found.{foundIn};
 
 pub enum Found {
@@ -66,7 +66,7 @@ fn at_leaf(n: Node, key: u32) -> Found
 // What the tree at node i says of the key. The tree's height falls with each call.
 fn descend(pool: &[u8], i: u32, key: u32) -> Found
     requires { ⌜ Rooted (now pool) i ⌝ }
-    ensures { λ r. ⌜ ((T : Plan) → Stands (now (pool .entry)) i T → r ≡ foundIn key (entries (treeIn T))) ⌝ }
+    ensures { λ r. ⌜ ((T : Plan) → StandsAt (now (pool .entry)) i T → r ≡ foundIn key (entries (treeIn T))) ⌝ }
 {
     let n = read_node(pool, i);
     if n.height == 0 {

@@ -18,7 +18,7 @@ use Rattle.rules.specs.Tree.{entries, newest, oldest}
 use Rattle.pool.specs.Plan.{Plan, leaf, node, treeIn, number, numbers, leafNode}
 use Rattle.pool.specs.Image.{AllBelow, Holds}
 use Rattle.pool.proofs.Placed.{Placed, at-leaf, at-node, not-higher}
-use Rattle.fit.specs.Check.{leafOk, middleOf, endOf, both, leavesAt}
+use Rattle.fit.specs.Check.{leafOk, coverMiddle, coverEnd, both, leavesAt}
 use Rattle.fit.proofs.Tests.{leaf-true}
 use Rattle.fit.proofs.InnerTests.{Inner}
 use Rattle.fit.proofs.LeavesLaws.{stepped, both-sum}
@@ -91,8 +91,8 @@ module _ (m : List ℕ) (nodes : ℕ) where
       let e = q .0 in
       let two : 2 ^ nodeAt m i .height ≡ 2 ^ suc h = ap (λ (n : Node). 2 ^ n .height) e in
       let el : nodeAt m i .low ≡ low = ap (λ (n : Node). n .low) e in
-      let mid : middleOf (nodeAt m i) ≡ low + 2 ^ h = omega (arith, el, two, pow-suc 2 h) in
-      let past : endOf (nodeAt m i) ≡ low + 2 ^ suc h = omega (arith, el, two) in
+      let mid : coverMiddle (nodeAt m i) ≡ low + 2 ^ h = omega (arith, el, two, pow-suc 2 h) in
+      let past : coverEnd (nodeAt m i) ≡ low + 2 ^ suc h = omega (arith, el, two) in
       let a = complete pl (q .1) (below-left nodes (numbers l) (numbers r) (b .1)) (λ x s. good x (in-left (entries (treeIn r)) s)) (omega arith) g (omega (arith, pow-suc 2 g, pow-suc 2 h)) in
       let c = complete pr (q .2) (below-right nodes (numbers l) (numbers r) (b .1)) (λ x s. good x (in-right (entries (treeIn l)) s)) (omega arith) g (omega (arith, pow-suc 2 g, pow-suc 2 h)) in
       stepped m nodes i from to (λ y. omega (arith, ap (λ (n : Node). n .height) e, y)) f g

@@ -12,7 +12,7 @@ use borrow.Author.Tests.{eq-eqb, ne-eqb, not-true, not-false}
 use Rattle.nodes.specs.declared.node.Node.{Node}
 use Rattle.nodes.specs.Nodes.{nodeAt}
 use Rattle.rules.specs.Lists.{if_then_else_}
-use Rattle.fit.specs.Check.{leafOk, innerOk, middleOf, endOf, both, bit, leavesAt}
+use Rattle.fit.specs.Check.{leafOk, innerOk, coverMiddle, coverEnd, both, bit, leavesAt}
 use Rattle.fit.proofs.Tests.{leaf-facts, is-false}
 use Rattle.fit.proofs.InnerTests.{Own, Inner, inner-true, inner-facts}
 
@@ -68,17 +68,17 @@ module _ (m : List ℕ) (nodes i from to : ℕ) where
 
     module _ (f : Inner m nodes i from to) where
       pub stepped : (g : ℕ) → leavesAt m nodes (suc g) i from to
-          ≡ both (leavesAt m nodes g (nodeAt m i .left) (nodeAt m i .low) (middleOf (nodeAt m i))) (leavesAt m nodes g (nodeAt m i .right) (middleOf (nodeAt m i)) (endOf (nodeAt m i)))
+          ≡ both (leavesAt m nodes g (nodeAt m i .left) (nodeAt m i .low) (coverMiddle (nodeAt m i))) (leavesAt m nodes g (nodeAt m i .right) (coverMiddle (nodeAt m i)) (coverEnd (nodeAt m i)))
       unfolding leavesAt
       stepped g = rw (ne-eqb (nodeAt m i .height) 0 nz, inner-true m nodes i from to f)
 
       -- the code's own names for the node that it read and for its size
       module _ (n : Node) (e : n ≡ nodeAt m i) (s : ℕ) (es : s ≡ 2 ^ n .height) where
-        left-of : (a : ℕ) → Counts m nodes (n .left) (n .low) (n .low + s / 2) a → Counts m nodes (nodeAt m i .left) (nodeAt m i .low) (middleOf (nodeAt m i)) a
-        left-of a c = subst (λ (z : Node). Counts m nodes (z .left) (z .low) (middleOf z) a) e (rw es at c)
+        left-of : (a : ℕ) → Counts m nodes (n .left) (n .low) (n .low + s / 2) a → Counts m nodes (nodeAt m i .left) (nodeAt m i .low) (coverMiddle (nodeAt m i)) a
+        left-of a c = subst (λ (z : Node). Counts m nodes (z .left) (z .low) (coverMiddle z) a) e (rw es at c)
 
-        right-of : (b : ℕ) → Counts m nodes (n .right) (n .low + s / 2) (n .low + s) b → Counts m nodes (nodeAt m i .right) (middleOf (nodeAt m i)) (endOf (nodeAt m i)) b
-        right-of b c = subst (λ (z : Node). Counts m nodes (z .right) (middleOf z) (endOf z) b) e (rw es at c)
+        right-of : (b : ℕ) → Counts m nodes (n .right) (n .low + s / 2) (n .low + s) b → Counts m nodes (nodeAt m i .right) (coverMiddle (nodeAt m i)) (coverEnd (nodeAt m i)) b
+        right-of b c = subst (λ (z : Node). Counts m nodes (z .right) (coverMiddle z) (coverEnd z) b) e (rw es at c)
 
         nothing : {A : Type 0} → to - from < 1 → A
         nothing lt = absurd (omega (arith, f .own .at-least, f .own .at-most, pow-pos (nodeAt m i .height)))
@@ -117,13 +117,13 @@ unfolding leavesAt
 few m nodes zero i from to = omega arith
 few m nodes (suc g) i from to =
     go (eqb (nodeAt m i .height) 0) (leafOk (nodeAt m i) from to) (innerOk m nodes i from to) refl refl
-    (both-few _ _ _ _ (few m nodes g (nodeAt m i .left) (nodeAt m i .low) (middleOf (nodeAt m i))) (few m nodes g (nodeAt m i .right) (middleOf (nodeAt m i)) (endOf (nodeAt m i))))
+    (both-few _ _ _ _ (few m nodes g (nodeAt m i .left) (nodeAt m i .low) (coverMiddle (nodeAt m i))) (few m nodes g (nodeAt m i .right) (coverMiddle (nodeAt m i)) (coverEnd (nodeAt m i))))
   where
     below : ℕ
-    below = both (leavesAt m nodes g (nodeAt m i .left) (nodeAt m i .low) (middleOf (nodeAt m i))) (leavesAt m nodes g (nodeAt m i .right) (middleOf (nodeAt m i)) (endOf (nodeAt m i)))
+    below = both (leavesAt m nodes g (nodeAt m i .left) (nodeAt m i .low) (coverMiddle (nodeAt m i))) (leavesAt m nodes g (nodeAt m i .right) (coverMiddle (nodeAt m i)) (coverEnd (nodeAt m i)))
 
     go : (z l k : Bool) → leafOk (nodeAt m i) from to ≡ l → innerOk m nodes i from to ≡ k
-        → below ≤ middleOf (nodeAt m i) - nodeAt m i .low + (endOf (nodeAt m i) - middleOf (nodeAt m i))
+        → below ≤ coverMiddle (nodeAt m i) - nodeAt m i .low + (coverEnd (nodeAt m i) - coverMiddle (nodeAt m i))
         → (if z then bit l else if k then below else 0) ≤ to - from
     go true true k e f h = let x = leaf-facts (nodeAt m i) from to e in omega (arith, x .at-least, x .below)
     go true false k e f h = omega arith

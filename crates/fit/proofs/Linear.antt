@@ -12,7 +12,7 @@ use lib.Pow.{pow-pos}
 use borrow.Author.Tests.{leb-true, le-leb, eqb-true, eqb-false}
 use Rattle.nodes.specs.Nodes.{nodeAt}
 use Rattle.rules.specs.Lists.{if_then_else_}
-use Rattle.fit.specs.Check.{leafOk, innerOk, middleOf, endOf, both, bit, leavesAt}
+use Rattle.fit.specs.Check.{leafOk, innerOk, coverMiddle, coverEnd, both, bit, leavesAt}
 use Rattle.fit.specs.Visits.{visits, depth}
 use Rattle.fit.proofs.Tests.{and-both, leaf-facts}
 use Rattle.fit.proofs.InnerTests.{Inner, inner-facts}
@@ -44,8 +44,8 @@ spans-yes m from to j a b = rw (le-leb from (nodeAt m j .low) a, le-leb (nodeAt 
 
 module _ (m : List ℕ) (nodes i from to : ℕ) (f : Inner m nodes i from to) (nz : nodeAt m i .height ≡ 0 → ⊥) where
   -- the node itself, what may lie left and what may lie right are apart
-  three : (j : ℕ) → bit (eqb j i) + (bit (spans m (nodeAt m i .low) (middleOf (nodeAt m i)) j) + bit (spans m (middleOf (nodeAt m i)) (endOf (nodeAt m i)) j)) ≤ bit (spans m from to j)
-  three j = go (eqb j i) refl (spans-cases m (nodeAt m i .low) (middleOf (nodeAt m i)) j) (spans-cases m (middleOf (nodeAt m i)) (endOf (nodeAt m i)) j)
+  three : (j : ℕ) → bit (eqb j i) + (bit (spans m (nodeAt m i .low) (coverMiddle (nodeAt m i)) j) + bit (spans m (coverMiddle (nodeAt m i)) (coverEnd (nodeAt m i)) j)) ≤ bit (spans m from to j)
+  three j = go (eqb j i) refl (spans-cases m (nodeAt m i .low) (coverMiddle (nodeAt m i)) j) (spans-cases m (coverMiddle (nodeAt m i)) (coverEnd (nodeAt m i)) j)
     where
       two : 2 ^ nodeAt m i .height ≡ 2 ^ nodeAt m i .height / 2 + 2 ^ nodeAt m i .height / 2
       two = halves (nodeAt m i .height) nz
@@ -54,9 +54,9 @@ module _ (m : List ℕ) (nodes i from to : ℕ) (f : Inner m nodes i from to) (n
       self e = ap (λ (x : ℕ). 2 ^ nodeAt m x .height) e
 
       go : (b : Bool) → eqb j i ≡ b
-          → Span m (nodeAt m i .low) (middleOf (nodeAt m i)) j ⊎ (spans m (nodeAt m i .low) (middleOf (nodeAt m i)) j ≡ false)
-          → Span m (middleOf (nodeAt m i)) (endOf (nodeAt m i)) j ⊎ (spans m (middleOf (nodeAt m i)) (endOf (nodeAt m i)) j ≡ false)
-          → bit b + (bit (spans m (nodeAt m i .low) (middleOf (nodeAt m i)) j) + bit (spans m (middleOf (nodeAt m i)) (endOf (nodeAt m i)) j)) ≤ bit (spans m from to j)
+          → Span m (nodeAt m i .low) (coverMiddle (nodeAt m i)) j ⊎ (spans m (nodeAt m i .low) (coverMiddle (nodeAt m i)) j ≡ false)
+          → Span m (coverMiddle (nodeAt m i)) (coverEnd (nodeAt m i)) j ⊎ (spans m (coverMiddle (nodeAt m i)) (coverEnd (nodeAt m i)) j ≡ false)
+          → bit b + (bit (spans m (nodeAt m i .low) (coverMiddle (nodeAt m i)) j) + bit (spans m (coverMiddle (nodeAt m i)) (coverEnd (nodeAt m i)) j)) ≤ bit (spans m from to j)
       go true e (inl x) y = absurd (omega (arith, x .at-most, x .at-least, self (eqb-true j i e), two, pow-pos (nodeAt m i .height)))
       go true e (inr x) (inl y) = absurd (omega (arith, y .at-most, y .at-least, self (eqb-true j i e), two, pow-pos (nodeAt m i .height)))
       go true e (inr x) (inr y) =
@@ -88,23 +88,23 @@ module _ (m : List ℕ) (nodes : ℕ) where
   visits-tally zero i from to lt = omega arith
   visits-tally (suc g) i from to lt =
       go (eqb (nodeAt m i .height) 0) (leafOk (nodeAt m i) from to) (innerOk m nodes i from to) refl refl refl
-      (visits-tally g (nodeAt m i .left) (nodeAt m i .low) (middleOf (nodeAt m i))) (visits-tally g (nodeAt m i .right) (middleOf (nodeAt m i)) (endOf (nodeAt m i)))
+      (visits-tally g (nodeAt m i .left) (nodeAt m i .low) (coverMiddle (nodeAt m i))) (visits-tally g (nodeAt m i .right) (coverMiddle (nodeAt m i)) (coverEnd (nodeAt m i)))
     where
       L : ℕ
-      L = visits m nodes g (nodeAt m i .left) (nodeAt m i .low) (middleOf (nodeAt m i))
+      L = visits m nodes g (nodeAt m i .left) (nodeAt m i .low) (coverMiddle (nodeAt m i))
 
       R : ℕ
-      R = visits m nodes g (nodeAt m i .right) (middleOf (nodeAt m i)) (endOf (nodeAt m i))
+      R = visits m nodes g (nodeAt m i .right) (coverMiddle (nodeAt m i)) (coverEnd (nodeAt m i))
 
       x : ℕ
-      x = leavesAt m nodes g (nodeAt m i .left) (nodeAt m i .low) (middleOf (nodeAt m i))
+      x = leavesAt m nodes g (nodeAt m i .left) (nodeAt m i .low) (coverMiddle (nodeAt m i))
 
       y : ℕ
-      y = leavesAt m nodes g (nodeAt m i .right) (middleOf (nodeAt m i)) (endOf (nodeAt m i))
+      y = leavesAt m nodes g (nodeAt m i .right) (coverMiddle (nodeAt m i)) (coverEnd (nodeAt m i))
 
       go : (z l k : Bool) → eqb (nodeAt m i .height) 0 ≡ z → leafOk (nodeAt m i) from to ≡ l → innerOk m nodes i from to ≡ k
-          → (nodeAt m i .left < nodes → L ≤ tally (spans m (nodeAt m i .low) (middleOf (nodeAt m i))) nodes + slack x)
-          → (nodeAt m i .right < nodes → R ≤ tally (spans m (middleOf (nodeAt m i)) (endOf (nodeAt m i))) nodes + slack y)
+          → (nodeAt m i .left < nodes → L ≤ tally (spans m (nodeAt m i .low) (coverMiddle (nodeAt m i))) nodes + slack x)
+          → (nodeAt m i .right < nodes → R ≤ tally (spans m (coverMiddle (nodeAt m i)) (coverEnd (nodeAt m i))) nodes + slack y)
           → suc (if z then 0 else if k then (L + (if eqb x 0 then 0 else R)) else 0) ≤ tally (spans m from to) nodes + slack (if z then bit l else if k then both x y else 0)
       go true true k ez el ek hl hr =
           let f = leaf-facts (nodeAt m i) from to el in
@@ -113,7 +113,7 @@ module _ (m : List ℕ) (nodes : ℕ) where
       go true false k ez el ek hl hr = omega arith
       go false l true ez el ek hl hr =
           let f = inner-facts m nodes i from to ek in
-          let t = tally-three (λ j. eqb j i) (spans m (nodeAt m i .low) (middleOf (nodeAt m i))) (spans m (middleOf (nodeAt m i)) (endOf (nodeAt m i))) (spans m from to) nodes (three m nodes i from to f (eqb-false (nodeAt m i .height) 0 ez)) in
+          let t = tally-three (λ j. eqb j i) (spans m (nodeAt m i .low) (coverMiddle (nodeAt m i))) (spans m (coverMiddle (nodeAt m i)) (coverEnd (nodeAt m i))) (spans m from to) nodes (three m nodes i from to f (eqb-false (nodeAt m i .height) 0 ez)) in
           sum-looks L R x y _ _ (tally (spans m from to) nodes) (hl (f .left-in)) (hr (f .right-in)) (omega (arith, t, tally-one i nodes lt))
       go false l false ez el ek hl hr = omega arith
 
@@ -134,19 +134,19 @@ module _ (m : List ℕ) (nodes : ℕ) where
   visits-exact zero i from to h = absurd (h refl)
   visits-exact (suc g) i from to h =
       go (eqb (nodeAt m i .height) 0) (leafOk (nodeAt m i) from to) (innerOk m nodes i from to) (eqb x 0) (eqb y 0) refl refl
-      (visits-exact g (nodeAt m i .left) (nodeAt m i .low) (middleOf (nodeAt m i))) (visits-exact g (nodeAt m i .right) (middleOf (nodeAt m i)) (endOf (nodeAt m i))) h
+      (visits-exact g (nodeAt m i .left) (nodeAt m i .low) (coverMiddle (nodeAt m i))) (visits-exact g (nodeAt m i .right) (coverMiddle (nodeAt m i)) (coverEnd (nodeAt m i))) h
     where
       L : ℕ
-      L = visits m nodes g (nodeAt m i .left) (nodeAt m i .low) (middleOf (nodeAt m i))
+      L = visits m nodes g (nodeAt m i .left) (nodeAt m i .low) (coverMiddle (nodeAt m i))
 
       R : ℕ
-      R = visits m nodes g (nodeAt m i .right) (middleOf (nodeAt m i)) (endOf (nodeAt m i))
+      R = visits m nodes g (nodeAt m i .right) (coverMiddle (nodeAt m i)) (coverEnd (nodeAt m i))
 
       x : ℕ
-      x = leavesAt m nodes g (nodeAt m i .left) (nodeAt m i .low) (middleOf (nodeAt m i))
+      x = leavesAt m nodes g (nodeAt m i .left) (nodeAt m i .low) (coverMiddle (nodeAt m i))
 
       y : ℕ
-      y = leavesAt m nodes g (nodeAt m i .right) (middleOf (nodeAt m i)) (endOf (nodeAt m i))
+      y = leavesAt m nodes g (nodeAt m i .right) (coverMiddle (nodeAt m i)) (coverEnd (nodeAt m i))
 
       go : (z l k s t : Bool) → eqb x 0 ≡ s → eqb y 0 ≡ t → ((x ≡ 0 → ⊥) → suc L ≡ 2 * x) → ((y ≡ 0 → ⊥) → suc R ≡ 2 * y)
           → ((if z then bit l else if k then (if s then 0 else if t then 0 else x + y) else 0) ≡ 0 → ⊥)
@@ -163,14 +163,14 @@ module _ (m : List ℕ) (nodes : ℕ) where
   unfolding depth
   depth-le zero i from to = omega arith
   depth-le (suc g) i from to =
-      go (eqb (nodeAt m i .height) 0) (innerOk m nodes i from to) (eqb (leavesAt m nodes g (nodeAt m i .left) (nodeAt m i .low) (middleOf (nodeAt m i))) 0)
-      (depth-le g (nodeAt m i .left) (nodeAt m i .low) (middleOf (nodeAt m i))) (depth-le g (nodeAt m i .right) (middleOf (nodeAt m i)) (endOf (nodeAt m i)))
+      go (eqb (nodeAt m i .height) 0) (innerOk m nodes i from to) (eqb (leavesAt m nodes g (nodeAt m i .left) (nodeAt m i .low) (coverMiddle (nodeAt m i))) 0)
+      (depth-le g (nodeAt m i .left) (nodeAt m i .low) (coverMiddle (nodeAt m i))) (depth-le g (nodeAt m i .right) (coverMiddle (nodeAt m i)) (coverEnd (nodeAt m i)))
     where
       L : ℕ
-      L = depth m nodes g (nodeAt m i .left) (nodeAt m i .low) (middleOf (nodeAt m i))
+      L = depth m nodes g (nodeAt m i .left) (nodeAt m i .low) (coverMiddle (nodeAt m i))
 
       R : ℕ
-      R = depth m nodes g (nodeAt m i .right) (middleOf (nodeAt m i)) (endOf (nodeAt m i))
+      R = depth m nodes g (nodeAt m i .right) (coverMiddle (nodeAt m i)) (coverEnd (nodeAt m i))
 
       go : (z k s : Bool) → L ≤ g → R ≤ g → suc (if z then 0 else if k then max L (if s then 0 else R) else 0) ≤ suc g
       go true k s hl hr = omega arith

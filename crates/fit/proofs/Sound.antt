@@ -21,7 +21,7 @@ use Rattle.rules.specs.Tree.{entries, newest, oldest}
 use Rattle.pool.specs.Plan.{Plan, leaf, node, treeIn, number, numbers, noNode, leafNode, rootNode}
 use Rattle.pool.specs.Image.{AllBelow, Holds}
 use Rattle.pool.proofs.Placed.{Placed, at-leaf, at-node, placed-widen}
-use Rattle.fit.specs.Check.{leafOk, innerOk, middleOf, endOf, both, bit, leavesAt}
+use Rattle.fit.specs.Check.{leafOk, innerOk, coverMiddle, coverEnd, both, bit, leavesAt}
 use Rattle.fit.proofs.Tests.{Live, Tombstone, Leaf, leaf-facts}
 use Rattle.fit.proofs.InnerTests.{Inner, inner-facts}
 
@@ -101,8 +101,8 @@ module _ (m : List ℕ) (nodes : ℕ) (bytes : Bytes m) where
           (f .at-least) (f .below) (f .words .written, tt)
 
   node-stands : (i from to k a b : ℕ) → i < nodes → nodeAt m i .height ≡ suc k → Inner m nodes i from to
-      → Stands m nodes (nodeAt m i .left) (nodeAt m i .low) (middleOf (nodeAt m i)) a
-      → Stands m nodes (nodeAt m i .right) (middleOf (nodeAt m i)) (endOf (nodeAt m i)) b
+      → Stands m nodes (nodeAt m i .left) (nodeAt m i .low) (coverMiddle (nodeAt m i)) a
+      → Stands m nodes (nodeAt m i .right) (coverMiddle (nodeAt m i)) (coverEnd (nodeAt m i)) b
       → Stands m nodes i from to (a + b)
   unfolding entries newest oldest
   node-stands i from to k a b lt eh f sl sr =
@@ -144,17 +144,17 @@ module _ (m : List ℕ) (nodes : ℕ) (bytes : Bytes m) where
   sound zero i from to lt h = absurd (h refl)
   sound (suc g) i from to lt h =
       go (eqb (nodeAt m i .height) 0) (leafOk (nodeAt m i) from to) (innerOk m nodes i from to) refl refl refl
-      (sound g (nodeAt m i .left) (nodeAt m i .low) (middleOf (nodeAt m i))) (sound g (nodeAt m i .right) (middleOf (nodeAt m i)) (endOf (nodeAt m i)))
+      (sound g (nodeAt m i .left) (nodeAt m i .low) (coverMiddle (nodeAt m i))) (sound g (nodeAt m i .right) (coverMiddle (nodeAt m i)) (coverEnd (nodeAt m i)))
       lt h
     where
       L : ℕ
-      L = leavesAt m nodes g (nodeAt m i .left) (nodeAt m i .low) (middleOf (nodeAt m i))
+      L = leavesAt m nodes g (nodeAt m i .left) (nodeAt m i .low) (coverMiddle (nodeAt m i))
 
       R : ℕ
-      R = leavesAt m nodes g (nodeAt m i .right) (middleOf (nodeAt m i)) (endOf (nodeAt m i))
+      R = leavesAt m nodes g (nodeAt m i .right) (coverMiddle (nodeAt m i)) (coverEnd (nodeAt m i))
 
       inner : (H : ℕ) → nodeAt m i .height ≡ H → (H ≡ 0 → ⊥) → Inner m nodes i from to
-          → Sound (nodeAt m i .left) (nodeAt m i .low) (middleOf (nodeAt m i)) L → Sound (nodeAt m i .right) (middleOf (nodeAt m i)) (endOf (nodeAt m i)) R
+          → Sound (nodeAt m i .left) (nodeAt m i .low) (coverMiddle (nodeAt m i)) L → Sound (nodeAt m i .right) (coverMiddle (nodeAt m i)) (coverEnd (nodeAt m i)) R
           → Sound i from to (both L R)
       inner zero e nz f sl sr lt h = absurd (nz refl)
       inner (suc k) e nz f sl sr lt h =
@@ -162,7 +162,7 @@ module _ (m : List ℕ) (nodes : ℕ) (bytes : Bytes m) where
           subst (λ (c : ℕ). Stands m nodes i from to c) (sym (s .2)) (node-stands i from to k L R lt e f (sl (f .left-in) (s .0)) (sr (f .right-in) (s .1)))
 
       go : (z l k : Bool) → eqb (nodeAt m i .height) 0 ≡ z → leafOk (nodeAt m i) from to ≡ l → innerOk m nodes i from to ≡ k
-          → Sound (nodeAt m i .left) (nodeAt m i .low) (middleOf (nodeAt m i)) L → Sound (nodeAt m i .right) (middleOf (nodeAt m i)) (endOf (nodeAt m i)) R
+          → Sound (nodeAt m i .left) (nodeAt m i .low) (coverMiddle (nodeAt m i)) L → Sound (nodeAt m i .right) (coverMiddle (nodeAt m i)) (coverEnd (nodeAt m i)) R
           → Sound i from to (if z then bit l else if k then both L R else 0)
       go true true k x y w sl sr lt h = leaf-stands i from to lt (eqb-true (nodeAt m i .height) 0 x) (leaf-facts (nodeAt m i) from to y)
       go true false k x y w sl sr lt h = absurd (h refl)

@@ -40,11 +40,11 @@ innerOk m nodes i from to =
     ownOk n from to && (ltb (n .left) nodes && (ltb (n .right) nodes && sumsOk n (nodeAt m (n .left)) (nodeAt m (n .right))))
 
 -- where the right half of what node n covers begins, and where it ends
-abbrev pub middleOf : Node → ℕ
-middleOf n = n .low + 2 ^ n .height / 2
+abbrev pub coverMiddle : Node → ℕ
+coverMiddle n = n .low + 2 ^ n .height / 2
 
-abbrev pub endOf : Node → ℕ
-endOf n = n .low + 2 ^ n .height
+abbrev pub coverEnd : Node → ℕ
+coverEnd n = n .low + 2 ^ n .height
 
 -- both halves hold a tree
 unfoldable pub both : ℕ → ℕ → ℕ
@@ -59,6 +59,6 @@ unfoldable pub leavesAt : List ℕ → ℕ → ℕ → ℕ → ℕ → ℕ → �
 leavesAt m nodes zero i from to = 0
 leavesAt m nodes (suc g) i from to =
     let n = nodeAt m i in
-    let below = both (leavesAt m nodes g (n .left) (n .low) (middleOf n)) (leavesAt m nodes g (n .right) (middleOf n) (endOf n)) in
+    let below = both (leavesAt m nodes g (n .left) (n .low) (coverMiddle n)) (leavesAt m nodes g (n .right) (coverMiddle n) (coverEnd n)) in
     let inner = if innerOk m nodes i from to then below else 0 in
     if eqb (n .height) 0 then bit (leafOk n from to) else inner

@@ -8,7 +8,7 @@ use lib.Dec.{ltb, leb, eqb}
 use Rattle.nodes.specs.declared.header.Header.{Header}
 use Rattle.nodes.specs.Nodes.{nodeAt}
 use Rattle.rules.specs.Lists.{if_then_else_}
-use Rattle.fit.specs.Check.{innerOk, middleOf, endOf, leavesAt}
+use Rattle.fit.specs.Check.{innerOk, coverMiddle, coverEnd, leavesAt}
 use Rattle.fit.specs.Whole.{freeOk, freeCount, treeOk}
 
 -- below node i: the right child is looked at only where the left holds a tree
@@ -16,8 +16,8 @@ unfoldable pub visits : List ℕ → ℕ → ℕ → ℕ → ℕ → ℕ → ℕ
 visits m nodes zero i from to = 0
 visits m nodes (suc g) i from to =
     let n = nodeAt m i in
-    let right = if eqb (leavesAt m nodes g (n .left) (n .low) (middleOf n)) 0 then 0 else visits m nodes g (n .right) (middleOf n) (endOf n) in
-    let inner = if innerOk m nodes i from to then visits m nodes g (n .left) (n .low) (middleOf n) + right else 0 in
+    let right = if eqb (leavesAt m nodes g (n .left) (n .low) (coverMiddle n)) 0 then 0 else visits m nodes g (n .right) (coverMiddle n) (coverEnd n) in
+    let inner = if innerOk m nodes i from to then visits m nodes g (n .left) (n .low) (coverMiddle n) + right else 0 in
     suc (if eqb (n .height) 0 then 0 else inner)
 
 -- how many calls stand in one another, a leaf's look among them
@@ -25,8 +25,8 @@ unfoldable pub depth : List ℕ → ℕ → ℕ → ℕ → ℕ → ℕ → ℕ
 depth m nodes zero i from to = 0
 depth m nodes (suc g) i from to =
     let n = nodeAt m i in
-    let right = if eqb (leavesAt m nodes g (n .left) (n .low) (middleOf n)) 0 then 0 else depth m nodes g (n .right) (middleOf n) (endOf n) in
-    let inner = if innerOk m nodes i from to then max (depth m nodes g (n .left) (n .low) (middleOf n)) right else 0 in
+    let right = if eqb (leavesAt m nodes g (n .left) (n .low) (coverMiddle n)) 0 then 0 else depth m nodes g (n .right) (coverMiddle n) (coverEnd n) in
+    let inner = if innerOk m nodes i from to then max (depth m nodes g (n .left) (n .low) (coverMiddle n)) right else 0 in
     suc (if eqb (n .height) 0 then 0 else inner)
 
 -- along the free nodes

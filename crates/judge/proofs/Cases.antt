@@ -16,9 +16,9 @@ use Rattle.rules.specs.Tree.{Tree, treeOf, walk}
 use Rattle.rules.proofs.Search.{walk-found}
 use Rattle.pool.specs.Plan.{noNode}
 use Rattle.pool.specs.Image.{Arrangement, Image, stateOf}
-use Rattle.walk.specs.declared.Walked.{Walked}
-use Rattle.walk.specs.Conflict.{conflictIn}
-use Rattle.walk.proofs.Answer.{named, named-found}
+use Rattle.conflict_search.specs.declared.Walked.{Walked}
+use Rattle.conflict_search.specs.Conflict.{conflictIn}
+use Rattle.conflict_search.proofs.Answer.{named, named-found}
 use Rattle.judge.specs.Judged.{judged, judgedOf}
 
 -- THE LEAF FOUND

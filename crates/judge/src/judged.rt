@@ -1,10 +1,10 @@
 // What meld and refresh ask first of a record that is well formed.
+use conflict_search::conflict;
 use nodes::read_header;
 use record::Answer;
-use walk::conflict;
 ghost use mathlib.Core.Path.{_≡_};
 ghost use Rattle.pool.specs.Image.{Arrangement, Image, Fit, stateOf};
-ghost use Rattle.walk.specs.Sorted.{Sorted, footprint};
+ghost use Rattle.conflict_search.specs.Sorted.{Sorted, footprint};
 ghost use Rattle.judge.specs.Judged.{judgedOf};
 
 pub struct Judged {

@@ -1,9 +1,9 @@
 // Melding the whole records at the front of a part of a log.
 use crate::printing::print_line;
 use log::Cut;
+use log_reader::part_at;
+use log_reader::step_at;
 use meld::meld;
-use walker::part_at;
-use walker::step_at;
 ghost use Prim.Native.Nat.{_≤_};
 ghost use lib.ListN.{length};
 

@@ -8,7 +8,7 @@ use lib.ListN.{length, take}
 use lib.Seq.{take-append-seam, take-length}
 use Rattle.log.specs.declared.found.Cut.the-variants.{End}
 use Rattle.log.specs.Walk.{Walks, ends, joined, CutLog}
-use Rattle.log.specs.Sized.{AllSized, no-part, one-more}
+use Rattle.log.specs.PartSized.{PartsSized, no-part, one-more}
 use Rattle.log.proofs.Stands.{end-found}
 use Rattle.log.proofs.Walk.{walks-once, walks-sized, walks-joined, joined-walks}
 
@@ -19,7 +19,7 @@ joined-append (part ∷ before) after =
     ap (λ (l : List ℕ). part ++ l) (joined-append before after) ∙ sym (append-assoc part (joined before) (joined after))
 
 -- what each part is, each of the first of them is
-sized-before : (before after : List (List ℕ)) → AllSized (before ++ after) → AllSized before
+sized-before : (before after : List (List ℕ)) → PartsSized (before ++ after) → PartsSized before
 sized-before [] after s = no-part
 sized-before (part ∷ before) after (one-more s each) = one-more s (sized-before before after each)
 

@@ -9,15 +9,15 @@ use lib.ListN.{length}
 use Rattle.record.specs.Answer.{brokenLog}
 use Rattle.log.specs.declared.found.Cut.{Cut}
 use Rattle.log.specs.declared.found.Cut.the-variants.{End, Broken, Record}
-use Rattle.log.specs.Log.{cutAt, pastAt, endsAt, brokenAt, answerOf, CutIs}
+use Rattle.log.specs.Log.{cutAt, pastAt, endsAt, brokenAt, cutAnswer, CutIs}
 use Rattle.log.proofs.Stands.{RecordAt, end-found, broken-found, record-found}
 
 -- the case decides the number
 numbered : (log : List ℕ) (place : ℕ) (r : Cut) → cutAt log place ≡ r → CutIs log place r
 unfolding cutAt
-numbered log place r is = record { case = sym is; number = ap answerOf (sym is) ∙ of-cut (endsAt log place) (brokenAt log place) }
+numbered log place r is = record { case = sym is; number = ap cutAnswer (sym is) ∙ of-cut (endsAt log place) (brokenAt log place) }
   where
-    of-cut : (e b : Bool) → answerOf (cond e End (cond b Broken (Record (pastAt log place)))) ≡ cond (not e && b) (some brokenLog) none
+    of-cut : (e b : Bool) → cutAnswer (cond e End (cond b Broken (Record (pastAt log place)))) ≡ cond (not e && b) (some brokenLog) none
     of-cut true b = refl
     of-cut false true = refl
     of-cut false false = refl

@@ -10,7 +10,7 @@ use lib.Seq.{getD-take, getD-append-add, getD-drop, take-add, drop-at, length-ta
 use Rattle.words.specs.Laws.{word-same, word-drop}
 use Rattle.log.specs.declared.found.Cut.the-variants.{Record}
 use Rattle.log.specs.Log.{cutAt, lengthAt, partOf}
-use Rattle.log.specs.Sized.{Sized}
+use Rattle.log.specs.PartSized.{PartSized}
 use Rattle.log.proofs.Stands.{RecordAt, record-tells, record-found}
 
 -- two logs have the same bytes from a place to another
@@ -62,7 +62,7 @@ part-same log other place next e same =
     ∙ part-up-to log place next (omega (arith, r .past)) (omega (arith, r .past, r .inside))
 
 -- a part of the right size stands wherever its bytes stand
-pub cut-here : (before part after : List ℕ) → Sized part → cutAt (before ++ (part ++ after)) (length before) ≡ Record (length before + length part)
+pub cut-here : (before part after : List ℕ) → PartSized part → cutAt (before ++ (part ++ after)) (length before) ≡ Record (length before + length part)
 cut-here before part after s =
     record-found (before ++ (part ++ after)) (length before) (length before + length part)
     (record {

@@ -12,7 +12,7 @@ use Rattle.log.specs.declared.found.Cut.{Cut}
 use Rattle.log.specs.declared.found.Cut.the-variants.{End, Broken, Record}
 use Rattle.log.specs.Log.{cutAt, lengthAt, partOf}
 use Rattle.log.specs.Walk.{Walks, ends, breaks, hands, joined}
-use Rattle.log.specs.Sized.{Sized, AllSized, no-part, one-more}
+use Rattle.log.specs.PartSized.{PartSized, PartsSized, no-part, one-more}
 use Rattle.log.proofs.Stands.{RecordAt, record-tells, end-tells, end-found, end-not-record, broken-not-record, broken-not-end, same-next}
 use Rattle.log.proofs.Same.{cut-here}
 
@@ -62,7 +62,7 @@ walks-once {log = log} {place = place} (hands {next = next} {parts = parts} {las
 -- EACH PART HAS THE SIZE THAT ITS LENGTH SAYS
 
 -- where a record stands
-pub sized-at : (log : List ℕ) (place next : ℕ) → RecordAt log place next → Sized (partOf (Record next) log place)
+pub sized-at : (log : List ℕ) (place next : ℕ) → RecordAt log place next → PartSized (partOf (Record next) log place)
 sized-at log place next r =
     record { size = omega (arith, long, said, r .past); least = omega (arith, said, r .least); most = omega (arith, said, r .most) }
   where
@@ -76,13 +76,13 @@ sized-at log place next r =
         ∙ ap (λ (i : ℕ). getD log i 0) (omega arith))
 
 -- and so in a whole walk
-pub walks-sized : {log : List ℕ} {place : ℕ} {parts : List (List ℕ)} {last : Cut} → Walks log place parts last → AllSized parts
+pub walks-sized : {log : List ℕ} {place : ℕ} {parts : List (List ℕ)} {last : Cut} → Walks log place parts last → PartsSized parts
 walks-sized (ends e) = no-part
 walks-sized (breaks e) = no-part
 walks-sized {log = log} {place = place} (hands {next = next} e w) = one-more (sized-at log place next (record-tells log place next e)) (walks-sized w)
 
 -- "The shortest record has 9 bytes, the longest .. 905 in all"
-pub sized-range : {part : List ℕ} → Sized part → (9 ≤ length part) × (length part ≤ 905)
+pub sized-range : {part : List ℕ} → PartSized part → (9 ≤ length part) × (length part ≤ 905)
 sized-range s = (omega (arith, s .size, s .least), omega (arith, s .size, s .most))
 
 -- THE PARTS ARE THE LOG
@@ -111,7 +111,7 @@ part-here before part after =
     ∙ take-append-seam part after
 
 -- behind any bytes
-pub joined-walks-from : (before : List ℕ) {parts : List (List ℕ)} → AllSized parts → Walks (before ++ joined parts) (length before) parts End
+pub joined-walks-from : (before : List ℕ) {parts : List (List ℕ)} → PartsSized parts → Walks (before ++ joined parts) (length before) parts End
 joined-walks-from before no-part = ends (end-found (before ++ []) (length before) (omega (arith, length-append before [])))
 joined-walks-from before (one-more {part = part} {parts = parts} s each) =
     let log : List ℕ = before ++ (part ++ joined parts) in
@@ -123,5 +123,5 @@ joined-walks-from before (one-more {part = part} {parts = parts} s each) =
     (hands (cut-here before part (joined parts) s) v)
 
 -- from the start
-pub joined-walks : {parts : List (List ℕ)} → AllSized parts → Walks (joined parts) 0 parts End
+pub joined-walks : {parts : List (List ℕ)} → PartsSized parts → Walks (joined parts) 0 parts End
 joined-walks each = joined-walks-from [] each

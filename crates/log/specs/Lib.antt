@@ -1,3 +1,3 @@
 pub mod Log
 pub mod Walk
-pub mod Sized
+pub mod PartSized

@@ -45,15 +45,15 @@ unfoldable pub cutAt : List ℕ → ℕ → Cut
 cutAt log place = cond (endsAt log place) End (cond (brokenAt log place) Broken (Record (pastAt log place)))
 
 -- the paper's number for each case: a broken log is 10; "end" and a record handed out have no number
-abbrev pub answerOf : Cut → Option Answer
-answerOf End = none
-answerOf Broken = some brokenLog
-answerOf (Record next) = none
+abbrev pub cutAnswer : Cut → Option Answer
+cutAnswer End = none
+cutAnswer Broken = some brokenLog
+cutAnswer (Record next) = none
 
 -- what `cut` promises of its answer: the case that stands at the place, and the paper's number for it
 pub record CutIs (log : List ℕ) (place : ℕ) (r : Cut) : Type 0 where
   pub case : r ≡ cutAt log place
-  pub number : answerOf r ≡ cond (not (endsAt log place) && brokenAt log place) (some brokenLog) none
+  pub number : cutAnswer r ≡ cond (not (endsAt log place) && brokenAt log place) (some brokenLog) none
 
 -- the part handed out: "with "end" or 10 .. empty", otherwise the bytes from the place to the place past the record
 abbrev pub partOf : Cut → List ℕ → ℕ → List ℕ

@@ -14,12 +14,12 @@ use Rattle.record.specs.Record.{Rec, Valid}
 use Rattle.rules.specs.Lists.{if_then_else_, keep}
 use Rattle.rules.specs.State.{Entry, State, lastPosition}
 use Rattle.rules.specs.Footprint.{writesOf}
-use Rattle.rules.specs.Verdict.{Verdict, committed, conflict, tooOld, noRoom, malformed, ahead, usedUp, storeAll, young, whole, lean, count, apply, conflicts, judge, formed, verdict, pointsOf, step, left, next}
+use Rattle.rules.specs.Verdict.{Verdict, committed, conflict, tooOld, noRoom, malformed, ahead, positionsUsedUp, storeAll, young, whole, lean, count, apply, conflicts, judge, formed, verdict, pointsOf, step, left, next}
 use Rattle.rules.proofs.Stored.{writes-at}
-use Rattle.rules.specs.Sized.{Sized}
+use Rattle.rules.specs.EntryFits.{EntryFits}
 use Rattle.rules.proofs.Written.{ValidIf, record-sized}
 use Rattle.pool.specs.Image.{Arrangement, Arranged, stateOf}
-use Rattle.drop.specs.Drop.{dropIn, onward}
+use Rattle.drop.specs.Drop.{dropIn, movedOn}
 use Rattle.drop.proofs.Arranging.{drop-arranged, drop-young, onward-arranged}
 use Rattle.commit.specs.Applied.{storeIn}
 use Rattle.commit.specs.Commit.{oldAt}
@@ -34,7 +34,7 @@ pub record Passed (S : State) (m : Option Rec) : Type 0 where
   pub room : count S (r .points) ≤ S .N
 
 -- of the verdict's tests the first and the last are read off
-pick : (a b c d e : Bool) → (if a then usedUp else (if b then ahead else (if c then tooOld else (if d then conflict else (if e then noRoom else committed))))) ≡ committed → (a ≡ false) × (e ≡ false)
+pick : (a b c d e : Bool) → (if a then positionsUsedUp else (if b then ahead else (if c then tooOld else (if d then conflict else (if e then noRoom else committed))))) ≡ committed → (a ≡ false) × (e ≡ false)
 pick true b c d e h = let z : _≡_ {A = ℕ} 0 1 = cc in absurd (omega arith)
 pick false true c d e h = let z : _≡_ {A = ℕ} 0 1 = cc in absurd (omega arith)
 pick false false true d e h = let z : _≡_ {A = ℕ} 0 1 = cc in absurd (omega arith)
@@ -42,7 +42,7 @@ pick false false false true e h = let z : _≡_ {A = ℕ} 0 1 = cc in absurd (om
 pick false false false false true h = let z : _≡_ {A = ℕ} 0 1 = cc in absurd (omega arith)
 pick false false false false false h = (refl, refl)
 
-none-commits : (a : Bool) → (if a then usedUp else malformed) ≡ committed → ⊥
+none-commits : (a : Bool) → (if a then positionsUsedUp else malformed) ≡ committed → ⊥
 none-commits true h = let z : _≡_ {A = ℕ} 0 1 = cc in omega arith
 none-commits false h = let z : _≡_ {A = ℕ} 0 1 = cc in omega arith
 
@@ -55,17 +55,17 @@ passed S (some r) h =
 
 -- A COMMIT
 
-module _ (A : Arrangement) (q : Arranged A) (ps : List Point) (more : A .p < lastPosition) (sized : (e : Entry) → Mem e (writesOf (A .p + 1) ps) → Sized e) where
+module _ (A : Arrangement) (q : Arranged A) (ps : List Point) (more : A .p < lastPosition) (sized : (e : Entry) → Mem e (writesOf (A .p + 1) ps) → EntryFits e) where
   abbrev ws : List Entry
   ws = writesOf (A .p + 1) ps
 
-  onward-storable : length (whole (stateOf A) ps) ≤ A .N → AllStorable (onward A) ws
+  onward-storable : length (whole (stateOf A) ps) ≤ A .N → AllStorable (movedOn A) ws
   onward-storable h = record { started = omega arith; sized = sized; at-p = λ e m. writes-at (A .p + 1) ps m; room = h }
 
-  kept-lean : stateOf (dropIn (oldAt A) (onward A)) .kept ≡ keep (young (A .Z) (A .p + 1)) (stateOf A .kept)
-  kept-lean = drop-young (A .Z) (A .p + 1) (onward A) (onward-arranged A more q)
+  kept-lean : stateOf (dropIn (oldAt A) (movedOn A)) .kept ≡ keep (young (A .Z) (A .p + 1)) (stateOf A .kept)
+  kept-lean = drop-young (A .Z) (A .p + 1) (movedOn A) (onward-arranged A more q)
 
-  lean-storable : count (stateOf A) ps ≤ A .N → AllStorable (dropIn (oldAt A) (onward A)) ws
+  lean-storable : count (stateOf A) ps ≤ A .N → AllStorable (dropIn (oldAt A) (movedOn A)) ws
   lean-storable h =
       record {
         started = omega arith;
@@ -79,9 +79,9 @@ module _ (A : Arrangement) (q : Arranged A) (ps : List Point) (more : A .p < las
   committed-state h = go (ltb (A .N) (length (whole (stateOf A) ps))) refl
     where
       go : (b : Bool) → ltb (A .N) (length (whole (stateOf A) ps)) ≡ b
-          → stateOf (storeIn (if b then dropIn (oldAt A) (onward A) else onward A) ws) ≡ step (stateOf A) (if b then lean (stateOf A) ps else whole (stateOf A) ps)
+          → stateOf (storeIn (if b then dropIn (oldAt A) (movedOn A) else movedOn A) ws) ≡ step (stateOf A) (if b then lean (stateOf A) ps else whole (stateOf A) ps)
       go true e =
-          state-store ws (drop-arranged (oldAt A) (onward A) (onward-arranged A more q)) (lean-storable h)
+          state-store ws (drop-arranged (oldAt A) (movedOn A) (onward-arranged A more q)) (lean-storable h)
           ∙ ap (λ (es : List Entry). step (stateOf A) (storeAll ws es)) kept-lean
       go false e = state-store ws (onward-arranged A more q) (onward-storable (ltb-false (A .N) (length (whole (stateOf A) ps)) e))
 
@@ -101,4 +101,4 @@ after-state A q m valid = go (verdict (stateOf A) m) refl
     go noRoom e = refl
     go malformed e = refl
     go ahead e = refl
-    go usedUp e = refl
+    go positionsUsedUp e = refl

@@ -17,7 +17,7 @@ use Rattle.record.specs.Record.{Rec, Valid}
 use Rattle.rules.specs.Lists.{if_then_else_, any, keep, distinct}
 use Rattle.rules.specs.State.{Entry, State, Lawful, lastPosition}
 use Rattle.rules.specs.Footprint.{reach, writesOf}
-use Rattle.rules.specs.Verdict.{Verdict, committed, conflict, tooOld, noRoom, malformed, ahead, usedUp, answerOf, hits, conflicts, young, whole, count, judge, verdict}
+use Rattle.rules.specs.Verdict.{Verdict, committed, conflict, tooOld, noRoom, malformed, ahead, positionsUsedUp, verdictAnswer, hits, conflicts, young, whole, count, judge, verdict}
 use Rattle.rules.specs.Tree.{treeOf, walk, looksOf}
 use Rattle.rules.proofs.Tests.{keep-mem, mem-map, of-map}
 use Rattle.rules.specs.State.{keyIn}
@@ -38,7 +38,7 @@ pub data Stops : Verdict → Type 0 where
 pub record Decided (S : State) (r : Rec) (j : Judged) : Type 0 where
   pub v : Verdict
   pub is : verdict S (some r) ≡ v
-  pub answer-is : j .answer ≡ answerOf v
+  pub answer-is : j .answer ≡ verdictAnswer v
   pub looks-is : j .looks ≡ looksOf S (some r)
   pub stops : Stops v
 

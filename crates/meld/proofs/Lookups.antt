@@ -15,7 +15,7 @@ use Rattle.find.specs.Found.{foundIn, seenAs}
 use Rattle.find.proofs.Lookup.{found-lookup}
 use Rattle.meld.specs.declared.kept.Lookup.{Lookup}
 use Rattle.meld.specs.declared.kept.Lookup.the-variants.{Unfit}
-use Rattle.meld.specs.Lookups.{numberOf, lookupOf, LooksUp}
+use Rattle.meld.specs.Lookups.{lookupAnswer, lookupOf, LooksUp}
 
 -- the check said yes, and so there is a state
 pub now-fit : (m : List ℕ) (b : Bool) → Decides (Fit m) b → not b ≡ false → Fit m
@@ -39,7 +39,7 @@ unfit-lookup m k b d e =
     }
 
 -- what is seen in a fit pool has no number
-seen-unnumbered : (x : Seen) → numberOf (lookupOf x) ≡ none
+seen-unnumbered : (x : Seen) → lookupAnswer (lookupOf x) ≡ none
 seen-unnumbered absent = refl
 seen-unnumbered (found x w) = refl
 
@@ -48,6 +48,6 @@ fit-lookup m k b d e f ef r er =
     record {
       fit = λ A i. er ∙ ap (λ (x : Found). lookupOf (seenAs x)) (ef A i) ∙ ap lookupOf (found-lookup k (stateOf A));
       unfit = λ n. absurd (n (now-fit m b d e));
-      no-number = λ _. ap numberOf er ∙ seen-unnumbered (seenAs f);
+      no-number = λ _. ap lookupAnswer er ∙ seen-unnumbered (seenAs f);
       number = λ n. absurd (n (now-fit m b d e));
     }

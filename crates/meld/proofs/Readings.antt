@@ -15,7 +15,7 @@ use Rattle.record.specs.declared.answer.Answer.{Answer}
 use Rattle.record.specs.declared.reader.Reading.{Reading}
 use Rattle.record.specs.Record.{Rec, Valid, kindOf, keyOf, payloadOf}
 use Rattle.record.specs.Parse.{parse}
-use Rattle.record.specs.Reader.{Lists, lists, Outcome, outcome, front, roomy, filled, readOf, lowOf, highOf}
+use Rattle.record.specs.Reader.{Lists, lists, ReadOutcome, readOutcome, front, roomy, filled, readOf, lowOf, highOf}
 use Rattle.record.proofs.RoundTrip.{bytesOf-parse}
 use Rattle.meld.specs.Lists.{Names}
 
@@ -24,7 +24,7 @@ front-take : {A : Type 0} (f : A → ℕ) (xs : List A) (l l′ : List ℕ) (n :
 front-take f xs l l′ n e h = rw e (take-at (map f xs) (drop (length (map f xs)) l) n (length-map xs f ∙ sym h))
 
 module _ (bs K E P L H K′ E′ P′ L′ H′ : List ℕ) (bytes : Bytes bs) (lk : length K ≡ 64) (le : length E ≡ 64) (lp : length P ≡ 64) (ll : length L ≡ 8) (lh : length H ≡ 8)
-    (d : Reading) (e : outcome d (lists K′ E′ P′ L′ H′) ≡ readOf (parse bs) (lists K E P L H)) where
+    (d : Reading) (e : readOutcome d (lists K′ E′ P′ L′ H′) ≡ readOf (parse bs) (lists K E P L H)) where
   room : (r : Rec) → Valid r → roomy r (lists K E P L H) ≡ true
   room r v =
       let p = v .few-points in
@@ -41,8 +41,8 @@ module _ (bs K E P L H K′ E′ P′ L′ H′ : List ℕ) (bytes : Bytes bs) (
   unfolding readOf
   is-filled r q =
       let v = bytesOf-parse bs r bytes q .0 in
-      let x : outcome d (lists K′ E′ P′ L′ H′) ≡ outcome (record { answer = record { number = 0 }; snapshot = r .snapshot; points = length (r .points); scans = length (r .scans) }) (filled r (lists K E P L H)) = rw (q, room r v) at e in
-      record { valid = v; reading-is = ap (λ (o : Outcome). o .reading) x; lists-are = ap (λ (o : Outcome). o .left) x }
+      let x : readOutcome d (lists K′ E′ P′ L′ H′) ≡ readOutcome (record { answer = record { number = 0 }; snapshot = r .snapshot; points = length (r .points); scans = length (r .scans) }) (filled r (lists K E P L H)) = rw (q, room r v) at e in
+      record { valid = v; reading-is = ap (λ (o : ReadOutcome). o .reading) x; lists-are = ap (λ (o : ReadOutcome). o .left) x }
 
   pub read-none : (d .answer .number ≡ 0 → ⊥) → parse bs ≡ none
   read-none h = go (parse bs) refl
@@ -67,7 +67,7 @@ module _ (bs K E P L H K′ E′ P′ L′ H′ : List ℕ) (bytes : Bytes bs) (
       not-malformed x a b = omega arith
 
       go : (o : Option Rec) → parse bs ≡ o → Got
-      go none q = absurd (not-malformed d (ap (λ (o : Outcome). o .reading .answer .number) (rw q at e)) h)
+      go none q = absurd (not-malformed d (ap (λ (o : ReadOutcome). o .reading .answer .number) (rw q at e)) h)
       go (some r) q =
           let f = is-filled r q in
           let n : d .points ≡ length (r .points) = ap (λ (x : Reading). x .points) (f .reading-is) in

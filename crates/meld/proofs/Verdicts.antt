@@ -20,15 +20,15 @@ use Rattle.nodes.specs.Nodes.{headerAt}
 use Rattle.rules.specs.Lists.{if_then_else_, keep}
 use Rattle.rules.specs.State.{Entry, State, lastPosition}
 use Rattle.rules.specs.Footprint.{reach, writesOf}
-use Rattle.rules.specs.Verdict.{Verdict, committed, conflict, tooOld, noRoom, malformed, ahead, usedUp, answerOf, storeAll, young, whole, count, verdict}
+use Rattle.rules.specs.Verdict.{Verdict, committed, conflict, tooOld, noRoom, malformed, ahead, positionsUsedUp, verdictAnswer, storeAll, young, whole, count, verdict}
 use Rattle.rules.specs.Tree.{looksOf}
-use Rattle.rules.specs.Sized.{Sized}
+use Rattle.rules.specs.EntryFits.{EntryFits}
 use Rattle.rules.proofs.Written.{written-sized}
 use Rattle.pool.specs.Image.{Arrangement, Image, Fit, stateOf}
-use Rattle.walk.specs.Sorted.{Sorted, footprint}
-use Rattle.walk.proofs.Reach.{sorted-valid, footprint-reach}
+use Rattle.conflict_search.specs.Sorted.{Sorted, footprint}
+use Rattle.conflict_search.proofs.Reach.{sorted-valid, footprint-reach}
 use Rattle.drop.specs.Old.{stays}
-use Rattle.drop.specs.Drop.{dropIn, onward, PositionsLeft}
+use Rattle.drop.specs.Drop.{dropIn, movedOn, PositionsLeft}
 use Rattle.drop.proofs.Olds.{keep-young}
 use Rattle.judge.specs.declared.judged.Judged.{Judged}
 use Rattle.judge.specs.Judged.{judgedOf}
@@ -90,12 +90,12 @@ module _ (m : List ℕ) (s : ℕ) (kinds ks xs ls hs : List ℕ) (pre : Meldable
 
     -- A REFUSAL
 
-    stays-put : (A : Arrangement) (ps : List Point) (v : Verdict) → Stops v → leftIn A ps v ≡ onward A
+    stays-put : (A : Arrangement) (ps : List Point) (v : Verdict) → Stops v → leftIn A ps v ≡ movedOn A
     stays-put A ps ahead at-ahead = refl
     stays-put A ps tooOld at-too-old = refl
     stays-put A ps conflict at-conflict = refl
 
-    pub stopped : (m′ : List ℕ) → (j .answer .number ≡ 0 → ⊥) → ((A : Arrangement) → Image m A → Image m′ (onward A)) → MeldsLists m s kinds ks xs ls hs m′ (record { answer = j .answer; looks = j .looks })
+    pub stopped : (m′ : List ℕ) → (j .answer .number ≡ 0 → ⊥) → ((A : Arrangement) → Image m A → Image m′ (movedOn A)) → MeldsLists m s kinds ks xs ls hs m′ (record { answer = j .answer; looks = j .looks })
     unfolding afterIn
     stopped m′ d moved A i r n = ⊎-elim
         (λ (x : Decided (stateOf A) r j). record {
@@ -111,7 +111,7 @@ module _ (m : List ℕ) (s : ℕ) (kinds ks xs ls hs : List ℕ) (pre : Meldable
       open-way : (A : Arrangement) → Image m A → (r : Rec) → NamesOf s kinds ks xs ls hs r → Open (stateOf A) r j
       open-way A i r n = ⊎-elim (λ (x : Decided (stateOf A) r j). absurd (not-zero (x .v) (x .stops) (sym (ap (λ (a : Answer). a .number) (x .answer-is)) ∙ zero))) (λ x. x) (way A i r n)
         where
-          not-zero : (v : Verdict) → Stops v → answerOf v .number ≡ 0 → ⊥
+          not-zero : (v : Verdict) → Stops v → verdictAnswer v .number ≡ 0 → ⊥
           not-zero ahead at-ahead e = omega arith
           not-zero tooOld at-too-old e = omega arith
           not-zero conflict at-conflict e = omega arith
@@ -123,7 +123,7 @@ module _ (m : List ℕ) (s : ℕ) (kinds ks xs ls hs : List ℕ) (pre : Meldable
         room-is : (A : Arrangement) → Image m A → (r : Rec) → NamesOf s kinds ks xs ls hs r → (b : Room) → a ≡ b → b ≡ Rattle.room.specs.Room.roomOf (stateOf A) (r .points)
         room-is A i r n b e = sym e ∙ ea A i r (n .valid) (n .kinds-are) (n .keys-are)
 
-        pub no-room : (m′ : List ℕ) → a ≡ TooLittle → ((A : Arrangement) → Image m A → Image m′ (onward A)) → MeldsLists m s kinds ks xs ls hs m′ (record { answer = Names.noRoom; looks = j .looks })
+        pub no-room : (m′ : List ℕ) → a ≡ TooLittle → ((A : Arrangement) → Image m A → Image m′ (movedOn A)) → MeldsLists m s kinds ks xs ls hs m′ (record { answer = Names.noRoom; looks = j .looks })
         unfolding afterIn
         no-room m′ e moved A i r n =
             let x = open-way A i r n in
@@ -131,7 +131,7 @@ module _ (m : List ℕ) (s : ℕ) (kinds ks xs ls hs : List ℕ) (pre : Meldable
             let v : verdict (stateOf A) (some r) ≡ noRoom = x .is ∙ rw (t .over) in
             record { verdict-is = rw (x .looks-is, v); leaves = rw v (moved A i) }
 
-        sized : (v : ℕ) (r : Rec) → NamesOf s kinds ks xs ls hs r → (e : Entry) → Mem e (writesIn v kinds ks xs) → Sized e
+        sized : (v : ℕ) (r : Rec) → NamesOf s kinds ks xs ls hs r → (e : Entry) → Mem e (writesIn v kinds ks xs) → EntryFits e
         sized v r n e w = written-sized v 0 (r .points) (n .valid .rising) e (subst (λ (ps : List Point). Mem e (writesOf v ps)) (points-are r n) w)
 
         as-keys : length ks ≡ length kinds
@@ -163,7 +163,7 @@ module _ (m : List ℕ) (s : ℕ) (kinds ks xs ls hs : List ℕ) (pre : Meldable
             let x = open-way A i r n in
             let f = enough (stateOf A) r (i .arranged .lawful) (n .valid) (room-is A i r n Enough e) in
             let v : verdict (stateOf A) (some r) ≡ committed = x .is ∙ rw (f .tested) in
-            let l : Image m′ (storeIn (onward A) (writesOf (A .p + 1) (r .points))) = subst (λ (ps : List Point). Image m′ (storeIn (onward A) (writesOf (A .p + 1) ps))) (points-are r n) (left A i) in
+            let l : Image m′ (storeIn (movedOn A) (writesOf (A .p + 1) (r .points))) = subst (λ (ps : List Point). Image m′ (storeIn (movedOn A) (writesOf (A .p + 1) ps))) (points-are r n) (left A i) in
             record { verdict-is = rw (x .looks-is, v, x .answer-is); leaves = rw (v, f .under) l }
 
         -- THE OLD TOMBSTONES DROPPED FIRST
@@ -193,5 +193,5 @@ module _ (m : List ℕ) (s : ℕ) (kinds ks xs ls hs : List ℕ) (pre : Meldable
             let x = open-way A i r n in
             let f = after-drop (stateOf A) r (room-is A i r n AfterDrop e) in
             let v : verdict (stateOf A) (some r) ≡ committed = x .is ∙ rw (f .tested) in
-            let l : Image m′ (storeIn (dropIn (oldAt A) (onward A)) (writesOf (A .p + 1) (r .points))) = subst (λ (ps : List Point). Image m′ (storeIn (dropIn (oldAt A) (onward A)) (writesOf (A .p + 1) ps))) (points-are r n) (left A i) in
+            let l : Image m′ (storeIn (dropIn (oldAt A) (movedOn A)) (writesOf (A .p + 1) (r .points))) = subst (λ (ps : List Point). Image m′ (storeIn (dropIn (oldAt A) (movedOn A)) (writesOf (A .p + 1) ps))) (points-are r n) (left A i) in
             record { verdict-is = rw (x .looks-is, v, x .answer-is); leaves = rw (v, f .over) l }

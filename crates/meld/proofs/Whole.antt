@@ -14,11 +14,11 @@ use Rattle.nodes.specs.declared.header.Header.{Header}
 use Rattle.nodes.specs.Nodes.{headerAt}
 use Rattle.rules.specs.State.{State, lastPosition}
 use Rattle.rules.specs.Verdict.{Verdict, verdict}
-use Rattle.rules.specs.Verdict.{usedUp, malformed as isMalformed}
+use Rattle.rules.specs.Verdict.{positionsUsedUp as isUsedUp, malformed as isMalformed}
 use Rattle.rules.specs.Tree.{looksOf}
 use Rattle.rules.proofs.Near.{verdict-last}
 use Rattle.pool.specs.Image.{Arrangement, Image, Fit, stateOf}
-use Rattle.drop.specs.Drop.{onward, PositionsLeft}
+use Rattle.drop.specs.Drop.{movedOn, PositionsLeft}
 use Rattle.fit.specs.Whole.{Decides}
 use Rattle.meld.specs.declared.melding.Melded.{Melded}
 use Rattle.meld.specs.After.{afterIn}
@@ -34,7 +34,7 @@ module _ (m bs : List ℕ) (h : Header) (eh : h ≡ headerAt m) where
   pub used-up : h .position ≡ 4294967295 → MeldsFit m bs m (record { answer = positionsUsedUp; looks = 0 })
   unfolding afterIn looksOf
   used-up e A i =
-      let v : verdict (stateOf A) (parse bs) ≡ usedUp = verdict-last (stateOf A) (parse bs) (omega (arith, position-is A i)) in
+      let v : verdict (stateOf A) (parse bs) ≡ isUsedUp = verdict-last (stateOf A) (parse bs) (omega (arith, position-is A i)) in
       record { verdict-is = rw v; leaves = rw v i }
 
   module _ (fit : Fit m) (d : h .position ≡ 4294967295 → ⊥) where
@@ -45,7 +45,7 @@ module _ (m bs : List ℕ) (h : Header) (eh : h ≡ headerAt m) where
     has-left = record { arrangement = fit .arrangement; image = fit .image; more = more (fit .arrangement) (fit .image) }
 
     -- the bytes are no record
-    pub is-malformed : parse bs ≡ none → (m′ : List ℕ) → ((A : Arrangement) → Image m A → Image m′ (onward A)) → MeldsFit m bs m′ (record { answer = malformed; looks = 0 })
+    pub is-malformed : parse bs ≡ none → (m′ : List ℕ) → ((A : Arrangement) → Image m A → Image m′ (movedOn A)) → MeldsFit m bs m′ (record { answer = malformed; looks = 0 })
     unfolding afterIn looksOf verdict
     is-malformed e m′ f A i = rw e (record { verdict-is = rw (lt-leb lastPosition (A .p) (more A i)); leaves = rw (lt-leb lastPosition (A .p) (more A i)) (f A i) })
 

@@ -9,26 +9,26 @@ use Rattle.record.specs.declared.point.Point.{Point}
 use Rattle.record.specs.Record.{Rec}
 use Rattle.rules.specs.Lists.{if_then_else_}
 use Rattle.rules.specs.Footprint.{writesOf}
-use Rattle.rules.specs.Verdict.{Verdict, committed, conflict, tooOld, noRoom, malformed, ahead, usedUp, whole, verdict, pointsOf}
+use Rattle.rules.specs.Verdict.{Verdict, committed, conflict, tooOld, noRoom, malformed, ahead, positionsUsedUp, whole, verdict, pointsOf}
 use Rattle.pool.specs.Image.{Arrangement, stateOf}
-use Rattle.drop.specs.Drop.{dropIn, onward}
+use Rattle.drop.specs.Drop.{dropIn, movedOn}
 use Rattle.commit.specs.Applied.{storeIn}
 use Rattle.commit.specs.Commit.{oldAt}
 
 -- the position moved on, the old tombstones dropped if kept and written keys are together more than N, and the writes stored
 unfoldable pub committedIn : Arrangement → List Point → Arrangement
 committedIn A ps =
-    storeIn (if ltb (A .N) (length (whole (stateOf A) ps)) then dropIn (oldAt A) (onward A) else onward A) (writesOf (A .p + 1) ps)
+    storeIn (if ltb (A .N) (length (whole (stateOf A) ps)) then dropIn (oldAt A) (movedOn A) else movedOn A) (writesOf (A .p + 1) ps)
 
 -- "left behind", for each answer
 abbrev pub leftIn : Arrangement → List Point → Verdict → Arrangement
 leftIn A ps committed = committedIn A ps
-leftIn A ps conflict = onward A
-leftIn A ps tooOld = onward A
-leftIn A ps noRoom = onward A
-leftIn A ps malformed = onward A
-leftIn A ps ahead = onward A
-leftIn A ps usedUp = A
+leftIn A ps conflict = movedOn A
+leftIn A ps tooOld = movedOn A
+leftIn A ps noRoom = movedOn A
+leftIn A ps malformed = movedOn A
+leftIn A ps ahead = movedOn A
+leftIn A ps positionsUsedUp = A
 
 -- the arrangement after a record
 unfoldable pub afterIn : Arrangement → Option Rec → Arrangement

@@ -12,10 +12,10 @@ use Rattle.meld.specs.declared.kept.Lookup.{Lookup}
 use Rattle.meld.specs.declared.kept.Lookup.the-variants.{Unfit, Absent, Found}
 
 -- the paper's number for each case: only 7 has one
-abbrev pub numberOf : Lookup → Option Answer
-numberOf Unfit = some unfitPool
-numberOf Absent = none
-numberOf (Found x w) = none
+abbrev pub lookupAnswer : Lookup → Option Answer
+lookupAnswer Unfit = some unfitPool
+lookupAnswer Absent = none
+lookupAnswer (Found x w) = none
 
 -- what the rules see, as the answer
 abbrev pub lookupOf : Seen → Lookup
@@ -26,5 +26,5 @@ lookupOf (found x w) = Found x w
 pub record LooksUp (m : List ℕ) (k : ℕ) (r : Lookup) : Type 0 where
   pub fit : (A : Arrangement) → Image m A → r ≡ lookupOf (lookup k (stateOf A))
   pub unfit : (Fit m → ⊥) → r ≡ Unfit
-  pub no-number : Fit m → numberOf r ≡ none
-  pub number : (Fit m → ⊥) → numberOf r ≡ some unfitPool
+  pub no-number : Fit m → lookupAnswer r ≡ none
+  pub number : (Fit m → ⊥) → lookupAnswer r ≡ some unfitPool

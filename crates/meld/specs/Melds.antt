@@ -9,7 +9,7 @@ use Rattle.record.specs.Answer.{unfitPool}
 use Rattle.record.specs.Record.{Rec}
 use Rattle.record.specs.Parse.{parse}
 use Rattle.rules.specs.State.{State}
-use Rattle.rules.specs.Verdict.{verdict, answerOf}
+use Rattle.rules.specs.Verdict.{verdict, verdictAnswer}
 use Rattle.rules.specs.Tree.{looksOf}
 use Rattle.pool.specs.Image.{Arrangement, Image, Fit, stateOf}
 use Rattle.meld.specs.declared.melding.Melded.{Melded}
@@ -17,7 +17,7 @@ use Rattle.meld.specs.After.{afterIn}
 
 -- the rules' verdict and looks
 abbrev pub meldedOf : State → Option Rec → Melded
-meldedOf S m = record { answer = answerOf (verdict S m); looks = looksOf S m }
+meldedOf S m = record { answer = verdictAnswer (verdict S m); looks = looksOf S m }
 
 -- for the state that the pool means: the rules' answer and looks, and the pool afterwards is the image of what the record leaves
 pub record MeldsAs (A : Arrangement) (r : Option Rec) (m′ : List ℕ) (a : Melded) : Type 0 where

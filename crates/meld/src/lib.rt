@@ -5,7 +5,7 @@ pub mod looking;
 pub mod melding;
 
 pub use create::create;
-pub use force::in_force;
+pub use in_force::in_force;
 pub use kept::Lookup;
 pub use looking::lookup;
 pub use melding::Melded;

@@ -7,16 +7,16 @@ use mathlib.Core.List.{List, [], _∷_, map}
 use Rattle.record.specs.declared.point.Scan.{Scan}
 use Rattle.record.specs.Reader.{lists, lowOf, highOf}
 use Rattle.writer.specs.declared.Written.{Written}
-use Rattle.writer.specs.Writer.{recordOf, outcome, writeOf}
+use Rattle.writer.specs.Writer.{recordOf, writeOutcome, writeOf}
 use Rattle.writer.proofs.Only.{write-only}
 
 -- what `write_pairs` promises of what it gives back and of the output at exit
 abbrev pub PairsWritten : ℕ → List ℕ → List ℕ → List ℕ → List Scan → List ℕ → Written → List ℕ → Type 0
-PairsWritten snapshot ks es xs cs output w left = outcome w left ≡ writeOf (recordOf snapshot (lists ks es xs (map lowOf cs) (map highOf cs))) output
+PairsWritten snapshot ks es xs cs output w left = writeOutcome w left ≡ writeOf (recordOf snapshot (lists ks es xs (map lowOf cs) (map highOf cs))) output
 
 -- what `write` promises, of two lists for the scans
 abbrev pub CoreWritten : ℕ → List ℕ → List ℕ → List ℕ → List ℕ → List ℕ → List ℕ → Written → List ℕ → Type 0
-CoreWritten snapshot ks es xs ls hs output w left = outcome w left ≡ writeOf (recordOf snapshot (lists ks es xs ls hs)) output
+CoreWritten snapshot ks es xs ls hs output w left = writeOutcome w left ≡ writeOf (recordOf snapshot (lists ks es xs ls hs)) output
 
 -- `write_pairs`: one answer and size, and one content of the output afterwards
 pub only-write-pairs : (snapshot : ℕ) (ks es xs : List ℕ) (cs : List Scan) (output : List ℕ) (w z : Written) (left kept : List ℕ)

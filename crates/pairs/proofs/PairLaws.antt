@@ -14,7 +14,7 @@ use borrow.Author.Tests.{lt-ltb, le-ltb}
 use Rattle.record.specs.declared.point.Scan.{Scan}
 use Rattle.record.specs.Record.{Rec}
 use Rattle.record.specs.Reader.{lists, lowOf, highOf}
-use Rattle.writer.specs.Writer.{Outcome, recordOf, writeOf}
+use Rattle.writer.specs.Writer.{WriteOutcome, recordOf, writeOf}
 use Rattle.writer.proofs.Names.{named}
 use Rattle.pairs.specs.declared.halves.Halves.{Halves}
 use Rattle.pairs.specs.Pairs.{noScan, atMost8, padded, noneYet, stored, halvesOf, writeHalves}
@@ -74,7 +74,7 @@ too-many snapshot ks es xs cs many = by-cases (recordOf snapshot (lists ks es xs
         absurd (omega (arith, length-map cs lowOf, length-map (r .scans) lowOf, same, is .few-scans, many))
 
 -- up to 8 are written as the core writes them
-pub few-written : (snapshot : ℕ) (ks es xs : List ℕ) (count : ℕ) (h : Halves) (output : List ℕ) (o : Outcome) → count ≤ 8
+pub few-written : (snapshot : ℕ) (ks es xs : List ℕ) (count : ℕ) (h : Halves) (output : List ℕ) (o : WriteOutcome) → count ≤ 8
     → o ≡ writeOf (recordOf snapshot (lists ks es xs (take count (h .lows)) (take count (h .highs)))) output → o ≡ writeHalves snapshot ks es xs count h output
 few-written snapshot ks es xs count h output o few e = simp (le-ltb 8 count few) e
 

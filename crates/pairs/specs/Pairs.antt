@@ -9,7 +9,7 @@ use lib.ListN.{take, set, replicate}
 use Rattle.record.specs.declared.point.Scan.{Scan}
 use Rattle.record.specs.Answer.{malformed}
 use Rattle.record.specs.Reader.{lists, lowOf, highOf}
-use Rattle.writer.specs.Writer.{Outcome, recordOf, outcome, refused, writeOf}
+use Rattle.writer.specs.Writer.{WriteOutcome, recordOf, writeOutcome, writeRefused, writeOf}
 use Rattle.pairs.specs.declared.halves.Halves.{Halves}
 
 abbrev pub noScan : Scan
@@ -36,7 +36,7 @@ abbrev pub halvesOf : ℕ → List Scan → Halves
 halvesOf count cs = record { lows = padded 8 (map lowOf (take count cs)); highs = padded 8 (map highOf (take count cs)) }
 
 -- what is written with the first count of the lows and highs: nothing of more than 8
-abbrev pub writeHalves : ℕ → List ℕ → List ℕ → List ℕ → ℕ → Halves → List ℕ → Outcome
+abbrev pub writeHalves : ℕ → List ℕ → List ℕ → List ℕ → ℕ → Halves → List ℕ → WriteOutcome
 writeHalves snapshot kinds keys payloads count s output =
-    cond (ltb 8 count) (outcome (refused malformed) output)
+    cond (ltb 8 count) (writeOutcome (writeRefused malformed) output)
     (writeOf (recordOf snapshot (lists kinds keys payloads (take count (s .lows)) (take count (s .highs)))) output)

@@ -14,7 +14,7 @@ ghost use mathlib.Core.Path.{_≡_};
 ghost use mathlib.Core.List.{[], _∷_, map};
 ghost use lib.ListN.{length};
 ghost use Rattle.record.specs.Reader.{lists, lowOf, highOf};
-ghost use Rattle.writer.specs.Writer.{recordOf, outcome, writeOf};
+ghost use Rattle.writer.specs.Writer.{recordOf, writeOutcome, writeOf};
 ghost use Rattle.pairs.specs.Pairs.{writeHalves};
 
 // Writes with the first `count` of the lows and highs; more than 8 scans are refused with 4, as the core does.
@@ -28,7 +28,7 @@ fn write_halves(
     output: &mut [u8],
 ) -> Written
     requires { ⌜ (length (halves .lows) ≡ 8) × (length (halves .highs) ≡ 8) ⌝ }
-    ensures { λ r. ⌜ outcome r (now (output .exit))
+    ensures { λ r. ⌜ writeOutcome r (now (output .exit))
         ≡ writeHalves snapshot (now (kinds .entry)) (now (keys .entry)) (now (payloads .entry)) count halves (now (output .entry)) ⌝ }
 {
     if MAX_SCANS < count {
@@ -60,7 +60,7 @@ pub fn write_pairs(
     scans: &[Scan],
     output: &mut [u8],
 ) -> Written
-    ensures { λ r. ⌜ outcome r (now (output .exit))
+    ensures { λ r. ⌜ writeOutcome r (now (output .exit))
         ≡ writeOf (recordOf snapshot
         (lists (now (kinds .entry)) (now (keys .entry)) (now (payloads .entry)) (map lowOf (now (scans .entry))) (map highOf (now (scans .entry)))))
         (now (output .entry)) ⌝ }
@@ -79,7 +79,7 @@ pub fn write_one(
     scan: Scan,
     output: &mut [u8],
 ) -> Written
-    ensures { λ r. ⌜ outcome r (now (output .exit))
+    ensures { λ r. ⌜ writeOutcome r (now (output .exit))
         ≡ writeOf (recordOf snapshot
         (lists (now (kinds .entry)) (now (keys .entry)) (now (payloads .entry)) (scan .low ∷ []) (scan .high ∷ [])))
         (now (output .entry)) ⌝ }

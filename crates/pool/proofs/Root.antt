@@ -13,7 +13,7 @@ use Rattle.rules.specs.Shape.{Canonical}
 use Rattle.rules.proofs.Trees.{treeOf-canonical}
 use Rattle.pool.specs.Plan.{Plan, number, numbers, noNode}
 use Rattle.pool.specs.Image.{Arrangement, Arranged, AllBelow, HoldsTree, Image, Fit, treeOr, rootOr, numbersOr}
-use Rattle.pool.specs.Subtree.{Stands, Rooted}
+use Rattle.pool.specs.Subtree.{StandsAt, Rooted}
 use Rattle.pool.proofs.Numbers.{below-mem}
 use Rattle.pool.proofs.Frame.{root-in}
 use Rattle.pool.proofs.Subtree.{below-left}
@@ -31,7 +31,7 @@ pub arranged-canonical : {A : Arrangement} → Arranged A → Canonical 32 0 (tr
 arranged-canonical a = subst (λ (t : Tree). Canonical 32 0 t) (sym (a .shape)) (treeOf-canonical 32 0 (a .lawful .rising))
 
 -- the whole tree stands at the root
-pub root-stands : {m : List ℕ} {A : Arrangement} (T : Plan) → Image m A → A .tree ≡ some T → Stands m (headerAt m .root) T
+pub root-stands : {m : List ℕ} {A : Arrangement} (T : Plan) → Image m A → A .tree ≡ some T → StandsAt m (headerAt m .root) T
 root-stands {m} {A} T x e = record {
   root = sym (root-word x ∙ ap rootOr e);
   holds = subst (HoldsTree m) e (x .tree);
@@ -44,13 +44,13 @@ root-stands {m} {A} T x e = record {
 }
 
 -- a number of the tree is no "none"
-pub stands-number : {m : List ℕ} {i : ℕ} (T : Plan) → Stands m i T → i < 131072
+pub stands-number : {m : List ℕ} {i : ℕ} (T : Plan) → StandsAt m i T → i < 131072
 stands-number T s = omega (arith, below-mem (s .inside) (root-in T), s .root, s .limit)
 
 -- what the root's number says of the tree
 pub data Rooting (m : List ℕ) (A : Arrangement) : Type 0 where
   bare : A .tree ≡ none → headerAt m .root ≡ noNode → Rooting m A
-  planted : (T : Plan) → A .tree ≡ some T → Stands m (headerAt m .root) T → Rooting m A
+  planted : (T : Plan) → A .tree ≡ some T → StandsAt m (headerAt m .root) T → Rooting m A
 
 -- the root's number is the tree's, or says "none"
 pub rooting : {m : List ℕ} {A : Arrangement} → Image m A → Rooting m A
@@ -69,10 +69,10 @@ no-root {m} {A} x q = go (rooting x)
     go (planted T e s) = absurd (omega (arith, stands-number T s))
 
 -- any other number is where the tree stands
-pub some-root : {m : List ℕ} {A : Arrangement} → Image m A → (headerAt m .root ≡ noNode → ⊥) → (T : Plan) × (A .tree ≡ some T) × Stands m (headerAt m .root) T
+pub some-root : {m : List ℕ} {A : Arrangement} → Image m A → (headerAt m .root ≡ noNode → ⊥) → (T : Plan) × (A .tree ≡ some T) × StandsAt m (headerAt m .root) T
 some-root {m} {A} x n = go (rooting x)
   where
-    go : Rooting m A → (T : Plan) × (A .tree ≡ some T) × Stands m (headerAt m .root) T
+    go : Rooting m A → (T : Plan) × (A .tree ≡ some T) × StandsAt m (headerAt m .root) T
     go (bare e w) = absurd (n w)
     go (planted T e s) = (T, e, s)
 

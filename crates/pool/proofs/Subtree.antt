@@ -17,7 +17,7 @@ use Rattle.rules.specs.Shape as trees
 use Rattle.pool.specs.Plan.{Plan, leaf, node, treeIn, numbers, leafNode, rootNode}
 use Rattle.pool.specs.Image.{AllBelow}
 use Rattle.pool.proofs.Frame.{root-holds}
-use Rattle.pool.specs.Subtree.{Stands, Rooted, startAt, endAt}
+use Rattle.pool.specs.Subtree.{StandsAt, Rooted, startAt, endAt}
 
 -- HALVES
 
@@ -96,7 +96,7 @@ root-spans (node i h low l r) f = let x = halved f in record { high = x .high; s
 -- THE WORDS OF A NODE
 
 -- node i is as the tree there says
-pub node-reads : {m : List ℕ} {i : ℕ} (T : Plan) → Stands m i T → nodeAt m i ≡ rootNode T
+pub node-reads : {m : List ℕ} {i : ℕ} (T : Plan) → StandsAt m i T → nodeAt m i ≡ rootNode T
 node-reads {m} {i} T s = subst (λ (x : ℕ). nodeAt m x ≡ rootNode T) (s .root) (root-holds T m (s .holds))
 
 -- a leaf's height, key and write position, live or not
@@ -123,13 +123,13 @@ pub below-right : (n : ℕ) (xs ys : List ℕ) → AllBelow n (xs ++ ys) → All
 below-right n [] ys a = a
 below-right n (x ∷ xs) ys a = below-right n xs ys (a .1)
 
-module _ {m : List ℕ} {i j h low : ℕ} {l r : Plan} (s : Stands m i (node j h low l r)) where
+module _ {m : List ℕ} {i j h low : ℕ} {l r : Plan} (s : StandsAt m i (node j h low l r)) where
   -- the words of the node
   words : nodeAt m i ≡ rootNode (node j h low l r)
   words = node-reads (node j h low l r) s
 
   -- its left subtree stands at its left child, its right one at its right child
-  pub stands-left : Stands m (nodeAt m i .left) l
+  pub stands-left : StandsAt m (nodeAt m i .left) l
   stands-left = record {
     root = sym (ap (λ (n : Node). n .left) words);
     holds = s .holds .1;
@@ -141,7 +141,7 @@ module _ {m : List ℕ} {i j h low : ℕ} {l r : Plan} (s : Stands m i (node j h
     canonical = halved (s .canonical) .left-in;
   }
 
-  pub stands-right : Stands m (nodeAt m i .right) r
+  pub stands-right : StandsAt m (nodeAt m i .right) r
   stands-right = record {
     root = sym (ap (λ (n : Node). n .right) words);
     holds = s .holds .2;
@@ -168,7 +168,7 @@ pub record Inner (m : List ℕ) (i : ℕ) : Type 0 where
 pub inner : {m : List ℕ} {i : ℕ} → Rooted m i → (nodeAt m i .height ≡ 0 → ⊥) → Inner m i
 inner {m} {i} w up = go (w .plan) (w .stands)
   where
-    go : (T : Plan) → Stands m i T → Inner m i
+    go : (T : Plan) → StandsAt m i T → Inner m i
     go (leaf j e) s = absurd (up (ap (λ (n : Node). n .height) (node-reads (leaf j e) s) ∙ leaf-height (e .key) (e .position) (e .payload)))
     go (node j h low l r) s =
         let x = halved (s .canonical) in
@@ -196,7 +196,7 @@ inner {m} {i} w up = go (w .plan) (w .stands)
 pub rooted-within : {m : List ℕ} {i : ℕ} → Rooted m i → 64 + 32 * i + 32 ≤ length m
 rooted-within {m} {i} w = go (w .plan) (w .stands)
   where
-    go : (T : Plan) → Stands m i T → 64 + 32 * i + 32 ≤ length m
+    go : (T : Plan) → StandsAt m i T → 64 + 32 * i + 32 ≤ length m
     go (leaf j e) s = omega (arith, s .root, s .room, s .inside .0)
     go (node j h low l r) s = omega (arith, s .root, s .room, s .inside .0)
 

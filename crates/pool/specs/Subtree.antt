@@ -10,7 +10,7 @@ use Rattle.pool.specs.Plan.{Plan, treeIn, number, numbers}
 use Rattle.pool.specs.Image.{AllBelow, Holds}
 
 -- the bytes hold the tree T at node i, within the pool; its nodes stand where keys first differ
-pub record Stands (m : List ℕ) (i : ℕ) (T : Plan) : Type 0 where
+pub record StandsAt (m : List ℕ) (i : ℕ) (T : Plan) : Type 0 where
   pub root : number T ≡ i
   pub holds : Holds m T
   pub nodes : ℕ
@@ -23,7 +23,7 @@ pub record Stands (m : List ℕ) (i : ℕ) (T : Plan) : Type 0 where
 -- some tree stands at node i
 pub record Rooted (m : List ℕ) (i : ℕ) : Type 0 where
   pub plan : Plan
-  pub stands : Stands m i plan
+  pub stands : StandsAt m i plan
 
 -- the least number that node i covers, and one past the last
 abbrev pub startAt : List ℕ → ℕ → ℕ

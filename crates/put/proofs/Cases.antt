@@ -14,9 +14,9 @@ use Rattle.pool.specs.Plan.{Plan, leaf, node, number, rootNode}
 use Rattle.pool.specs.Image.{Holds}
 use Rattle.pool.proofs.Frame.{root-holds}
 use Rattle.put.specs.declared.tree.Rooted.{Rooted}
-use Rattle.put.specs.Storing.{covered, lowOf}
+use Rattle.put.specs.Storing.{covered, firstOfPlan}
 use Rattle.put.specs.Writes.{splitMem, hookMem}
-use Rattle.put.specs.Places.{leafOf, Falls, Place, Ready, Puts}
+use Rattle.put.specs.Places.{leafOf, Falls, Place, PutReady, Puts}
 use Rattle.put.proofs.Roots.{heightOf, root-height, root-low, entry-low}
 use Rattle.put.proofs.Steps.{still-in, root-counted, has-not, room-a, room-b, leaf-step, split-step}
 use Rattle.put.proofs.Under.{place-left, place-right, left-rooms, right-rooms, left-step, right-step}
@@ -31,7 +31,7 @@ module _ (m : List ℕ) (i : ℕ) (l : Node) (a b : ℕ) where
   read-root n q T at h = q ∙ ap (λ (z : ℕ). nodeAt m z) (sym at) ∙ root-holds T m h
 
   -- and a test on them is one of the root
-  test-root : (n : Node) (T : Plan) (e : Entry) (t : Bool) → n ≡ rootNode T → l ≡ leafOf e → covered (n .low) (n .height) (l .low) ≡ t → covered (lowOf T) (heightOf T) (e .key) ≡ t
+  test-root : (n : Node) (T : Plan) (e : Entry) (t : Bool) → n ≡ rootNode T → l ≡ leafOf e → covered (n .low) (n .height) (l .low) ≡ t → covered (firstOfPlan T) (heightOf T) (e .key) ≡ t
   test-root n T e t v is c = rw (← root-low T, ← root-height T, ← entry-low e, ← v, ← is) c
 
   test-half : (n : Node) (j h low : ℕ) (x y : Plan) (e : Entry) (t : Bool) → n ≡ rootNode (node j h low x y) → l ≡ leafOf e → covered (n .low) (n .height - 1) (l .low) ≡ t → covered low (h - 1) (e .key) ≡ t
@@ -39,16 +39,16 @@ module _ (m : List ℕ) (i : ℕ) (l : Node) (a b : ℕ) where
 
   -- WHAT THE FIRST CALLS ASK
 
-  pub ready-room : Ready m i l a b → base i + 32 ≤ length m
+  pub ready-room : PutReady m i l a b → base i + 32 ≤ length m
   ready-room g = subst (λ (j : ℕ). base j + 32 ≤ length m) (g .at)
       (g .place .inside (number (g .tree)) (still-in a b (g .entry) (g .tree) (number (g .tree)) (root-counted (g .tree))))
 
-  pub ready-height : Ready m i l a b → (n : Node) → n ≡ nodeAt m i → n .height ≤ 32
+  pub ready-height : PutReady m i l a b → (n : Node) → n ≡ nodeAt m i → n .height ≤ 32
   ready-height g n q =
       let v = read-root n q (g .tree) (g .at) (g .place .holds) in
       rw (v, root-height (g .tree)) (falls-height (g .tree) 32 (g .place .falls))
 
-  pub split-rooms : Ready m i l a b → (n : Node) → n ≡ nodeAt m i → covered (n .low) (n .height) (l .low) ≡ false → (base a + 32 ≤ length m) × (base b + 32 ≤ length m)
+  pub split-rooms : PutReady m i l a b → (n : Node) → n ≡ nodeAt m i → covered (n .low) (n .height) (l .low) ≡ false → (base a + 32 ≤ length m) × (base b + 32 ≤ length m)
   split-rooms g n q c =
       let v = read-root n q (g .tree) (g .at) (g .place .holds) in
       let h = has-not (g .entry) (g .tree) (test-root n (g .tree) (g .entry) false v (g .is) c) in
@@ -77,10 +77,10 @@ module _ (m : List ℕ) (i : ℕ) (l : Node) (a b : ℕ) where
     no-leaf j x at h = z (ap (λ (k : Node). k .height) (read-root n q (leaf j x) at h) ∙ root-height (leaf j x))
 
     module _ (d : covered (n .low) (n .height - 1) (l .low) ≡ true) where
-      pub left-asks : (t : ℕ) → nodeAt m i .height ≡ t → Ready m i l a b → (nodeAt m (n .left) .height < t) × Ready m (n .left) l a b
+      pub left-asks : (t : ℕ) → nodeAt m i .height ≡ t → PutReady m i l a b → (nodeAt m (n .left) .height < t) × PutReady m (n .left) l a b
       left-asks t u g = go (g .tree) (g .entry) (g .at) (g .is) (g .place)
         where
-          go : (T : Plan) (e : Entry) → number T ≡ i → l ≡ leafOf e → Place m T e a b → (nodeAt m (n .left) .height < t) × Ready m (n .left) l a b
+          go : (T : Plan) (e : Entry) → number T ≡ i → l ≡ leafOf e → Place m T e a b → (nodeAt m (n .left) .height < t) × PutReady m (n .left) l a b
           go (leaf j x) e at is p = absurd (no-leaf j x at (p .holds))
           go (node j h low x y) e at is p =
               let v = read-root n q (node j h low x y) at (p .holds) in
@@ -91,7 +91,7 @@ module _ (m : List ℕ) (i : ℕ) (l : Node) (a b : ℕ) where
                 record { tree = x; entry = e; at = refl; is = is; place = sub },
               )
 
-      pub left-hook : Ready m i l a b → (m1 : List ℕ) (s : Rooted) → Puts m (n .left) l a b m1 s
+      pub left-hook : PutReady m i l a b → (m1 : List ℕ) (s : Rooted) → Puts m (n .left) l a b m1 s
           → (base i + 32 ≤ length m1) × (base (s .root) + 32 ≤ length m1) × (base (n .right) + 32 ≤ length m1)
       left-hook g m1 s f = go (g .tree) (g .entry) (g .at) (g .is) (g .place)
         where
@@ -117,10 +117,10 @@ module _ (m : List ℕ) (i : ℕ) (l : Node) (a b : ℕ) where
     -- ON THE RIGHT
 
     module _ (d : covered (n .low) (n .height - 1) (l .low) ≡ false) where
-      pub right-asks : (t : ℕ) → nodeAt m i .height ≡ t → Ready m i l a b → (nodeAt m (n .right) .height < t) × Ready m (n .right) l a b
+      pub right-asks : (t : ℕ) → nodeAt m i .height ≡ t → PutReady m i l a b → (nodeAt m (n .right) .height < t) × PutReady m (n .right) l a b
       right-asks t u g = go (g .tree) (g .entry) (g .at) (g .is) (g .place)
         where
-          go : (T : Plan) (e : Entry) → number T ≡ i → l ≡ leafOf e → Place m T e a b → (nodeAt m (n .right) .height < t) × Ready m (n .right) l a b
+          go : (T : Plan) (e : Entry) → number T ≡ i → l ≡ leafOf e → Place m T e a b → (nodeAt m (n .right) .height < t) × PutReady m (n .right) l a b
           go (leaf j x) e at is p = absurd (no-leaf j x at (p .holds))
           go (node j h low x y) e at is p =
               let v = read-root n q (node j h low x y) at (p .holds) in
@@ -131,7 +131,7 @@ module _ (m : List ℕ) (i : ℕ) (l : Node) (a b : ℕ) where
                 record { tree = y; entry = e; at = refl; is = is; place = sub },
               )
 
-      pub right-hook : Ready m i l a b → (m1 : List ℕ) (s : Rooted) → Puts m (n .right) l a b m1 s
+      pub right-hook : PutReady m i l a b → (m1 : List ℕ) (s : Rooted) → Puts m (n .right) l a b m1 s
           → (base i + 32 ≤ length m1) × (base (n .left) + 32 ≤ length m1) × (base (s .root) + 32 ≤ length m1)
       right-hook g m1 s f = go (g .tree) (g .entry) (g .at) (g .is) (g .place)
         where

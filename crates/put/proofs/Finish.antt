@@ -20,7 +20,7 @@ use Rattle.pool.proofs.Numbers.{times-append, times-mem, mem-times, distinct-ti
 use Rattle.pool.specs.Frame.{Frame}
 use Rattle.pool.proofs.Frame.{frame-node, frame-front, holds-frame, free-frame}
 use Rattle.put.specs.declared.value.Value.{Value}
-use Rattle.put.specs.Values.{payloadOf, entryOf}
+use Rattle.put.specs.Values.{payloadStored, entryOf}
 use Rattle.put.specs.Storing.{has, restOf, treeAfter, freeAfter, putIn}
 use Rattle.put.specs.Places.{leafOf}
 use Rattle.put.specs.Asks.{Roomy, grown}
@@ -115,7 +115,7 @@ held-after m k free (some T) h = held-if m (has k T) free h
 -- WHAT A PUT ASKS
 
 -- the room that one arrangement of the pool has, each has
-pub storable : (m : List ℕ) (k : ℕ) (v : Value) → Roomy m k v → k < 2 ^ 32 → Fits (payloadOf v) → (A : Arrangement) → Image m A → Storable A (entryOf k (A .p) v)
+pub storable : (m : List ℕ) (k : ℕ) (v : Value) → Roomy m k v → k < 2 ^ 32 → Fits (payloadStored v) → (A : Arrangement) → Image m A → Storable A (entryOf k (A .p) v)
 storable m k v g ks fs A a =
     let B = g .arrangement in
     let n = same-N m A B a (g .image) in

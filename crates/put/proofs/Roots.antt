@@ -16,7 +16,7 @@ use Rattle.rules.specs.State.{Entry, isLive, lastPosition}
 use Rattle.rules.specs.Tree as Trees
 use Rattle.rules.specs.Tree.{newest, oldest}
 use Rattle.pool.specs.Plan.{Plan, leaf, node, treeIn, number, leafNode, innerNode, rootNode}
-use Rattle.put.specs.Storing.{lowOf, beside}
+use Rattle.put.specs.Storing.{firstOfPlan, beside}
 use Rattle.put.specs.Writes.{forkNode}
 use Rattle.put.specs.Places.{leafOf}
 
@@ -49,7 +49,7 @@ pub root-height : (T : Plan) → rootNode T .height ≡ heightOf T
 root-height (leaf i x) = leaf-height (x .key) (x .position) (x .payload)
 root-height (node i h low l r) = refl
 
-pub root-low : (T : Plan) → rootNode T .low ≡ lowOf T
+pub root-low : (T : Plan) → rootNode T .low ≡ firstOfPlan T
 root-low (leaf i x) = leaf-low (x .key) (x .position) (x .payload)
 root-low (node i h low l r) = refl
 
@@ -83,10 +83,10 @@ pub fork-node : (a b : ℕ) (e : Entry) (T : Plan) → forkNode (number T) (root
 unfolding newest oldest
 fork-node a b e T =
     rw (root-low T, root-newest T, root-oldest T, entry-low e, leaf-newest (e .key) (e .position) (e .payload), leaf-oldest (e .key) (e .position) (e .payload))
-    (go (ltb (e .key) (lowOf T)))
+    (go (ltb (e .key) (firstOfPlan T)))
   where
     h : ℕ
-    h = partHeight (lowOf T) (e .key)
+    h = partHeight (firstOfPlan T) (e .key)
 
     low : ℕ
     low = e .key / 2 ^ h * 2 ^ h

@@ -20,9 +20,9 @@ use Rattle.pool.specs.Times.{times}
 use Rattle.pool.proofs.Frame.{frame-put, frame-widen, frame-header}
 use Rattle.put.specs.declared.tree.Rooted.{Rooted}
 use Rattle.put.specs.declared.value.Value.{Value}
-use Rattle.put.specs.Values.{payloadOf, entryOf}
+use Rattle.put.specs.Values.{payloadStored, entryOf}
 use Rattle.put.specs.Storing.{has, putPlan, restOf, putIn}
-use Rattle.put.specs.Places.{leafOf, Place, Done, Ready, Puts}
+use Rattle.put.specs.Places.{leafOf, Place, Done, PutReady, Puts}
 use Rattle.put.specs.Asks.{Roomy, LeafOf, nextOf, grown}
 use Rattle.put.proofs.Arranging.{Storable, arranged-canonical, enough, leaves-put}
 use Rattle.put.proofs.Counts.{root-put}
@@ -57,7 +57,7 @@ module _ (m : List ℕ) (k : ℕ) (v : Value) (hd : Header) (l : Node) (g : Room
   read A a = hq ∙ a .header
 
   leaf-is : (A : Arrangement) → Image m A → l ≡ leafOf (ent (A .p))
-  leaf-is A a = lq .is ∙ ap (λ (h : Header). leafNode k (h .position) (payloadOf v)) (read A a)
+  leaf-is A a = lq .is ∙ ap (λ (h : Header). leafNode k (h .position) (payloadStored v)) (read A a)
 
   few-nodes : (A : Arrangement) → Image m A → 2 * A .N ≤ 131072
   few-nodes A a = omega (arith, a .arranged .lawful .limit-N .1)
@@ -152,10 +152,10 @@ module _ (m : List ℕ) (k : ℕ) (v : Value) (hd : Header) (l : Node) (g : Room
     root-is N Z p T free a = sym (ap (λ (h : Header). h .root) (read (arr N Z p (some T) free) a))
 
     -- what the descent asks
-    pub put-at-asks : Ready m (hd .root) l (hd .free) second
+    pub put-at-asks : PutReady m (hd .root) l (hd .free) second
     put-at-asks = let A = g .arrangement in go (A .N) (A .Z) (A .p) (A .tree) (A .free) (g .image)
       where
-        go : (N Z p : ℕ) (o : Option Plan) (free : List ℕ) → Image m (arr N Z p o free) → Ready m (hd .root) l (hd .free) second
+        go : (N Z p : ℕ) (o : Option Plan) (free : List ℕ) → Image m (arr N Z p o free) → PutReady m (hd .root) l (hd .free) second
         go N Z p none free a = absurd (no-empty N Z p free a z)
         go N Z p (some T) free a = record { tree = T; entry = ent p; at = root-is N Z p T free a; is = leaf-is (arr N Z p (some T) free) a; place = place N Z p T free a }
 

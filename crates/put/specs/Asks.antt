@@ -14,7 +14,7 @@ use Rattle.rules.specs.Verdict.{store}
 use Rattle.pool.specs.Plan.{noNode, leafNode}
 use Rattle.pool.specs.Image.{Arrangement, Image, stateOf}
 use Rattle.put.specs.declared.value.Value.{Value}
-use Rattle.put.specs.Values.{payloadOf, entryOf}
+use Rattle.put.specs.Values.{payloadStored, entryOf}
 
 -- a fit pool, past position 0, with room for the key
 pub record Roomy (m : List ℕ) (k : ℕ) (v : Value) : Type 0 where
@@ -25,8 +25,8 @@ pub record Roomy (m : List ℕ) (k : ℕ) (v : Value) : Type 0 where
 
 -- the value's leaf; a payload has eight bytes
 pub record LeafOf (k p : ℕ) (v : Value) (n : Node) : Type 0 where
-  pub is : n ≡ leafNode k p (payloadOf v)
-  pub fits : Fits (payloadOf v)
+  pub is : n ≡ leafNode k p (payloadStored v)
+  pub fits : Fits (payloadStored v)
 
 -- the free node behind node i, none behind none
 unfoldable pub nextOf : List ℕ → ℕ → ℕ

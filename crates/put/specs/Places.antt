@@ -49,7 +49,7 @@ pub record Done (m : List ℕ) (T : Plan) (e : Entry) (a b : ℕ) (m′ : List �
   pub frame : Frame m m′ (λ j. 1 ≤ times j (numbers (putPlan a b e T)))
 
 -- node i is the root of a tree in which the leaf can be stored
-pub record Ready (m : List ℕ) (i : ℕ) (l : Node) (a b : ℕ) : Type 0 where
+pub record PutReady (m : List ℕ) (i : ℕ) (l : Node) (a b : ℕ) : Type 0 where
   pub tree : Plan
   pub entry : Entry
   pub at : number tree ≡ i

@@ -7,10 +7,10 @@ use Rattle.put.specs.declared.value.Value.{Value}
 use Rattle.put.specs.declared.value.Value.the-variants.{Live, Tombstone}
 
 -- the payload, or none for a tombstone
-abbrev pub payloadOf : Value → Option ℕ
-payloadOf (Live x) = some x
-payloadOf Tombstone = none
+abbrev pub payloadStored : Value → Option ℕ
+payloadStored (Live x) = some x
+payloadStored Tombstone = none
 
 -- the entry that is stored for a key at position p
 abbrev pub entryOf : ℕ → ℕ → Value → Entry
-entryOf k p v = record { key = k; position = p; payload = payloadOf v }
+entryOf k p v = record { key = k; position = p; payload = payloadStored v }

@@ -12,7 +12,7 @@ ghost use Rattle.nodes.specs.Nodes.{base};
 ghost use Rattle.pool.specs.Plan.{innerNode};
 ghost use Rattle.put.specs.Storing.{covered};
 ghost use Rattle.put.specs.Writes.{hookMem, splitMem};
-ghost use Rattle.put.specs.Places.{Ready, Puts};
+ghost use Rattle.put.specs.Places.{PutReady, Puts};
 
 // Where the tree's root is afterwards, and whether its key was not there before.
 pub struct Rooted {
@@ -89,7 +89,7 @@ fn hook(pool: &mut [u8], i: u32, n: Node, left: u32, right: u32)
 
 // Stores the leaf in the tree at node i; a and b are the nodes that a new key takes.
 pub fn put_at(pool: &mut [u8], i: u32, leaf: Node, a: u32, b: u32) -> Rooted
-    requires { ⌜ Ready (now pool) i leaf a b ⌝ }
+    requires { ⌜ PutReady (now pool) i leaf a b ⌝ }
     ensures { λ r. ⌜ Puts (now (pool .entry)) i leaf a b (now (pool .exit)) r ⌝ }
 {
     let n = read_node(pool, i);

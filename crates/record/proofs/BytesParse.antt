@@ -13,7 +13,7 @@ use Rattle.record.specs.declared.point.Point.the-variants.{Read, Put, De
 use Rattle.record.specs.declared.point.Scan.{Scan}
 use Rattle.record.specs.declared.checker.PointStep.the-variants as PointStep
 use Rattle.record.specs.declared.checker.ScanStep.the-variants as ScanStep
-use Rattle.record.specs.Record.{Rec, keyOf, payloadOf, pointBytes, pointsBytes, scanBytes, scansBytes, bodyBytes, bytesOf, Rising, Apart, Valid}
+use Rattle.record.specs.Record.{Rec, keyOf, payloadOf, pointBytes, pointsBytes, scanBytes, scansBytes, bodyBytes, bytesOf, PointsRise, Apart, Valid}
 use Rattle.record.specs.Parse.{took, stepPoint, stepScan, parsePoints, parseScans, parse}
 use Rattle.record.proofs.Places.{after-here, fits-here, byte-here, word-here, after-word}
 use Rattle.record.proofs.Sizes.{sizeOf, point-size, points-size-most, scan-bytes-size, scans-bytes-size, body-size, whole-size}
@@ -57,7 +57,7 @@ module _ (bs rest : List ℕ) (low at : ℕ) where
       )
 
 -- and the run all points that stand there
-pub points-found : (ps : List Point) (low at : ℕ) (bs rest : List ℕ) → drop at bs ≡ pointsBytes ps ++ rest → Rising low ps
+pub points-found : (ps : List Point) (low at : ℕ) (bs rest : List ℕ) → drop at bs ≡ pointsBytes ps ++ rest → PointsRise low ps
     → parsePoints (length ps) low bs at ≡ took ps (at + length (pointsBytes ps))
 unfolding parsePoints
 points-found [] low at bs rest e r = ap (took []) (omega arith)

@@ -8,7 +8,7 @@ use Rattle.record.specs.declared.point.Point.{Point}
 use Rattle.record.specs.declared.reader.Reading.{Reading}
 use Rattle.record.specs.Record.{kindOf, keyOf, payloadOf}
 use Rattle.record.specs.Parse.{parse, checkOf}
-use Rattle.record.specs.Reader.{Lists, Outcome, outcome, readOf}
+use Rattle.record.specs.Reader.{Lists, ReadOutcome, readOutcome, readOf}
 
 -- what equals one thing is equal
 pub only : {A : Type 0} {x y z : A} → x ≡ z → y ≡ z → x ≡ y
@@ -20,10 +20,10 @@ check-only bytes a b h k = only h k
 
 -- `read`: one reading, and one content of all five lists afterwards
 pub read-only : (bytes : List ℕ) (before : Lists) (r q : Reading) (left kept : Lists)
-    → outcome r left ≡ readOf (parse bytes) before → outcome q kept ≡ readOf (parse bytes) before → (r ≡ q) × (left ≡ kept)
+    → readOutcome r left ≡ readOf (parse bytes) before → readOutcome q kept ≡ readOf (parse bytes) before → (r ≡ q) × (left ≡ kept)
 read-only bytes before r q left kept h k =
-    let e : outcome r left ≡ outcome q kept = only h k in
-    (ap (λ (o : Outcome). o .reading) e, ap (λ (o : Outcome). o .left) e)
+    let e : readOutcome r left ≡ readOutcome q kept = only h k in
+    (ap (λ (o : ReadOutcome). o .reading) e, ap (λ (o : ReadOutcome). o .left) e)
 
 -- `Point::kind`, `Point::key` and `Point::payload`: one number each
 pub kind-only : (p : Point) (a b : ℕ) → a ≡ kindOf p → b ≡ kindOf p → a ≡ b

@@ -16,7 +16,7 @@ use Rattle.record.specs.declared.point.Point.the-variants.{Read, Put, De
 use Rattle.record.specs.declared.point.Scan.{Scan}
 use Rattle.record.specs.declared.checker.PointStep.the-variants as PointStep
 use Rattle.record.specs.declared.checker.ScanStep.the-variants as ScanStep
-use Rattle.record.specs.Record.{Rec, keyOf, payloadOf, pointBytes, pointsBytes, scanBytes, scansBytes, bodyBytes, bytesOf, Rising, Apart, Valid}
+use Rattle.record.specs.Record.{Rec, keyOf, payloadOf, pointBytes, pointsBytes, scanBytes, scansBytes, bodyBytes, bytesOf, PointsRise, Apart, Valid}
 use Rattle.record.specs.Parse.{took, stepPoint, stepScan, parsePoints, parseScans, parse, headOk}
 use Rattle.record.proofs.Cases.{by-case, and-split, no-point, no-scan, no-some, took-or, after-point, after-scan}
 use Rattle.record.proofs.Places.{byte-at, word-at}
@@ -95,7 +95,7 @@ module _ (bs : List ℕ) (y : Bytes bs) (at : ℕ) where
 -- a run of points
 record PointsAre (n low : ℕ) (bs : List ℕ) (at : ℕ) (ps : List Point) (e : ℕ) : Type 0 where
   run : drop at bs ≡ pointsBytes ps ++ drop e bs
-  rising : Rising low ps
+  rising : PointsRise low ps
   count : length ps ≡ n
 
 -- each point of the run stands in the bytes

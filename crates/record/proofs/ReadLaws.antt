@@ -16,7 +16,7 @@ use Rattle.record.specs.declared.reader.Reading.{Reading}
 use Rattle.record.specs.Answer.{committed, malformed, outputShort}
 use Rattle.record.specs.Record.{kindOf, keyOf, payloadOf}
 use Rattle.record.specs.Parse.{parsePoints, parseScans, listOf, placeOf, parse, checkOf}
-use Rattle.record.specs.Reader.{lists, outcome, readOf, refused, front, lowOf, highOf}
+use Rattle.record.specs.Reader.{lists, readOutcome, readOf, readRefused, front, lowOf, highOf}
 use Rattle.record.proofs.Lengths.{points-length, scans-length}
 use Rattle.record.proofs.WellFormed.{Good, good, refused-none}
 
@@ -26,7 +26,7 @@ sets-front vs l h = sets-eq vs l 0 (rw zero-add h) ∙ simp zero-add
 
 module _ (bs ks es xs ls hs : List ℕ) (a : Answer) (i : a ≡ checkOf (parse bs)) where
   -- the bytes are not well formed
-  pub read-malformed : (r : Reading) → (a .number ≡ 0 → ⊥) → r ≡ refused malformed → outcome r (lists ks es xs ls hs) ≡ readOf (parse bs) (lists ks es xs ls hs)
+  pub read-malformed : (r : Reading) → (a .number ≡ 0 → ⊥) → r ≡ readRefused malformed → readOutcome r (lists ks es xs ls hs) ≡ readOf (parse bs) (lists ks es xs ls hs)
   unfolding readOf
   read-malformed r n q = simp (refused-none bs a i n, q)
 
@@ -44,31 +44,31 @@ module _ (bs ks es xs ls hs : List ℕ) (a : Answer) (i : a ≡ checkOf (parse b
     sls = scans-length (getD bs 8 0) 0 bs _ (g .scans-took)
 
     -- too few kinds
-    pub read-kinds : (r : Reading) → length ks < getD bs 7 0 → r ≡ refused outputShort → outcome r (lists ks es xs ls hs) ≡ readOf (parse bs) (lists ks es xs ls hs)
+    pub read-kinds : (r : Reading) → length ks < getD bs 7 0 → r ≡ readRefused outputShort → readOutcome r (lists ks es xs ls hs) ≡ readOf (parse bs) (lists ks es xs ls hs)
     unfolding readOf
     read-kinds r b q = simp (g .is, q, pls, lt-leb _ _ b)
 
     module _ (rk : getD bs 7 0 ≤ length ks) where
       -- too few keys
-      pub read-keys : (r : Reading) → length es < getD bs 7 0 → r ≡ refused outputShort → outcome r (lists ks es xs ls hs) ≡ readOf (parse bs) (lists ks es xs ls hs)
+      pub read-keys : (r : Reading) → length es < getD bs 7 0 → r ≡ readRefused outputShort → readOutcome r (lists ks es xs ls hs) ≡ readOf (parse bs) (lists ks es xs ls hs)
       unfolding readOf
       read-keys r b q = simp (g .is, q, pls, le-leb _ _ rk, lt-leb _ _ b)
 
       module _ (re : getD bs 7 0 ≤ length es) where
         -- too few payloads
-        pub read-payloads : (r : Reading) → length xs < getD bs 7 0 → r ≡ refused outputShort → outcome r (lists ks es xs ls hs) ≡ readOf (parse bs) (lists ks es xs ls hs)
+        pub read-payloads : (r : Reading) → length xs < getD bs 7 0 → r ≡ readRefused outputShort → readOutcome r (lists ks es xs ls hs) ≡ readOf (parse bs) (lists ks es xs ls hs)
         unfolding readOf
         read-payloads r b q = simp (g .is, q, pls, le-leb _ _ rk, le-leb _ _ re, lt-leb _ _ b)
 
         module _ (rx : getD bs 7 0 ≤ length xs) where
           -- too few lows
-          pub read-lows : (r : Reading) → length ls < getD bs 8 0 → r ≡ refused outputShort → outcome r (lists ks es xs ls hs) ≡ readOf (parse bs) (lists ks es xs ls hs)
+          pub read-lows : (r : Reading) → length ls < getD bs 8 0 → r ≡ readRefused outputShort → readOutcome r (lists ks es xs ls hs) ≡ readOf (parse bs) (lists ks es xs ls hs)
           unfolding readOf
           read-lows r b q = simp (g .is, q, pls, sls, le-leb _ _ rk, le-leb _ _ re, le-leb _ _ rx, lt-leb _ _ b)
 
           module _ (rl : getD bs 8 0 ≤ length ls) where
             -- too few highs
-            pub read-highs : (r : Reading) → length hs < getD bs 8 0 → r ≡ refused outputShort → outcome r (lists ks es xs ls hs) ≡ readOf (parse bs) (lists ks es xs ls hs)
+            pub read-highs : (r : Reading) → length hs < getD bs 8 0 → r ≡ readRefused outputShort → readOutcome r (lists ks es xs ls hs) ≡ readOf (parse bs) (lists ks es xs ls hs)
             unfolding readOf
             read-highs r b q = simp (g .is, q, pls, sls, le-leb _ _ rk, le-leb _ _ re, le-leb _ _ rx, le-leb _ _ rl, lt-leb _ _ b)
 
@@ -82,7 +82,7 @@ module _ (bs ks es xs ls hs : List ℕ) (a : Answer) (i : a ≡ checkOf (parse b
                   → ls′ ≡ sets ls 0 (map lowOf (listOf (parseScans (getD bs 8 0) 0 bs at)))
                   → hs′ ≡ sets hs 0 (map highOf (listOf (parseScans (getD bs 8 0) 0 bs at)))
                   → snapshot ≡ word 4 bs 3
-                  → outcome (record { answer = committed; snapshot = snapshot; points = getD bs 7 0; scans = getD bs 8 0 }) (lists ks′ es′ xs′ ls′ hs′)
+                  → readOutcome (record { answer = committed; snapshot = snapshot; points = getD bs 7 0; scans = getD bs 8 0 }) (lists ks′ es′ xs′ ls′ hs′)
                   ≡ readOf (parse bs) (lists ks es xs ls hs)
               unfolding readOf
               read-whole ks′ es′ xs′ ls′ hs′ snapshot at ek ee ex ea el eh is =

@@ -30,12 +30,12 @@ abbrev pub lists : List ℕ → List ℕ → List ℕ → List ℕ → List ℕ 
 lists ks es xs ls hs = record { kinds = ks; keys = es; payloads = xs; lows = ls; highs = hs }
 
 -- what a call gives back and what it leaves in the lists
-pub record Outcome : Type 0 where
+pub record ReadOutcome : Type 0 where
   pub reading : Reading
   pub left : Lists
 
-abbrev pub outcome : Reading → Lists → Outcome
-outcome r l = record { reading = r; left = l }
+abbrev pub readOutcome : Reading → Lists → ReadOutcome
+readOutcome r l = record { reading = r; left = l }
 
 -- vs at the front of l, and the rest of l as before
 abbrev pub front : List ℕ → List ℕ → List ℕ
@@ -49,8 +49,8 @@ roomy r l =
     && (leb (length (r .scans)) (length (l .lows)) && leb (length (r .scans)) (length (l .highs)))))
 
 -- "all three 0 on a refusal"
-abbrev pub refused : Answer → Reading
-refused a = record { answer = a; snapshot = 0; points = 0; scans = 0 }
+abbrev pub readRefused : Answer → Reading
+readRefused a = record { answer = a; snapshot = 0; points = 0; scans = 0 }
 
 -- the lists with the record at their fronts
 abbrev pub filled : Rec → Lists → Lists
@@ -59,9 +59,9 @@ filled r l =
     (front (map lowOf (r .scans)) (l .lows)) (front (map highOf (r .scans)) (l .highs))
 
 -- "4, then 8 if a list is too short, both changing nothing, then 0 with the snapshot and both counts"
-unfoldable pub readOf : Option Rec → Lists → Outcome
-readOf none l = outcome (refused malformed) l
+unfoldable pub readOf : Option Rec → Lists → ReadOutcome
+readOf none l = readOutcome (readRefused malformed) l
 readOf (some r) l =
     cond (roomy r l)
-    (outcome (record { answer = committed; snapshot = r .snapshot; points = length (r .points); scans = length (r .scans) }) (filled r l))
-    (outcome (refused outputShort) l)
+    (readOutcome (record { answer = committed; snapshot = r .snapshot; points = length (r .points); scans = length (r .scans) }) (filled r l))
+    (readOutcome (readRefused outputShort) l)

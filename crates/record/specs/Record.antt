@@ -69,9 +69,9 @@ abbrev pub bytesOf : Rec → List ℕ
 bytesOf r = bigEndian 2 (length (bodyBytes r)) ++ bodyBytes r
 
 -- "Point keys rise strictly": from low on, each above the one before; keys and payloads fit their bytes
-abbrev pub Rising : ℕ → List Point → Type 0
-Rising low [] = Unit
-Rising low (p ∷ ps) = (low ≤ keyOf p) × (keyOf p < 2 ^ 32) × (payloadOf p < 2 ^ 64) × Rising (keyOf p + 1) ps
+abbrev pub PointsRise : ℕ → List Point → Type 0
+PointsRise low [] = Unit
+PointsRise low (p ∷ ps) = (low ≤ keyOf p) × (keyOf p < 2 ^ 32) × (payloadOf p < 2 ^ 64) × PointsRise (keyOf p + 1) ps
 
 -- "A scan has low ≤ high ..; each scan's low is above the high before it": from low on
 abbrev pub Apart : ℕ → List Scan → Type 0
@@ -83,5 +83,5 @@ pub record Valid (r : Rec) : Type 0 where
   pub snapshot-fits : r .snapshot < 2 ^ 32
   pub few-points : length (r .points) ≤ maxPoints
   pub few-scans : length (r .scans) ≤ maxScans
-  pub rising : Rising 0 (r .points)
+  pub rising : PointsRise 0 (r .points)
   pub apart : Apart 0 (r .scans)

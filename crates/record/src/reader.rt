@@ -14,7 +14,7 @@ ghost use lib.ListN.{length};
 ghost use lib.Seq.{sets};
 ghost use Rattle.record.specs.Record.{kindOf, keyOf, payloadOf};
 ghost use Rattle.record.specs.Parse.{parsePoints, parseScans, isTook, listOf, placeOf, parse};
-ghost use Rattle.record.specs.Reader.{lists, outcome, readOf, refused, lowOf, highOf};
+ghost use Rattle.record.specs.Reader.{lists, readOutcome, readOf, readRefused, lowOf, highOf};
 
 // What the reader gives back beside the lists: the answer, and on 0 the snapshot and how many points and scans there are.
 pub struct Reading {
@@ -26,7 +26,7 @@ pub struct Reading {
 
 // A refusal: snapshot and counts are 0.
 fn refusal(answer: Answer) -> Reading
-    ensures { λ r. ⌜ r ≡ refused answer ⌝ }
+    ensures { λ r. ⌜ r ≡ readRefused answer ⌝ }
 {
     Reading {
         answer,
@@ -103,7 +103,7 @@ pub fn read(
     lows: &mut [u32],
     highs: &mut [u32],
 ) -> Reading
-    ensures { λ r. ⌜ outcome r (lists (now (kinds .exit)) (now (keys .exit)) (now (payloads .exit)) (now (lows .exit)) (now (highs .exit)))
+    ensures { λ r. ⌜ readOutcome r (lists (now (kinds .exit)) (now (keys .exit)) (now (payloads .exit)) (now (lows .exit)) (now (highs .exit)))
         ≡ readOf (parse (now (bytes .entry)))
         (lists (now (kinds .entry)) (now (keys .entry)) (now (payloads .entry)) (now (lows .entry)) (now (highs .entry))) ⌝ }
 {

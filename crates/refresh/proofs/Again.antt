@@ -21,7 +21,7 @@ use Rattle.rules.specs.Refresh.{done, at, refresh}
 use Rattle.rules.proofs.Tests.{of-any}
 use Rattle.rules.proofs.Reach.{of-hits}
 use Rattle.rules.proofs.Refreshing.{refresh-exactly}
-use Rattle.refresh.specs.Refreshed.{outcome, leftBy, refreshedOf}
+use Rattle.refresh.specs.Refreshed.{refreshOutcome, leftBy, refreshedOf}
 use Rattle.refresh.proofs.Output.{FrontIs}
 
 -- with snapshot p nothing is in conflict
@@ -45,7 +45,7 @@ refresh-again S l r =
 
 -- over bytes: the front of the output, refreshed over the same output, answers 0 and changes no byte
 pub refreshed-again : (S : State) → Lawful S → (original before after : List ℕ) → FrontIs (S .p) original before after
-    → refreshedOf S (parse (take (length original) after)) after ≡ outcome committed after
+    → refreshedOf S (parse (take (length original) after)) after ≡ refreshOutcome committed after
 unfolding leftBy
 refreshed-again S l original before after f =
     let b : List ℕ = bytesOf (at (S .p) (f .r)) in
@@ -54,4 +54,4 @@ refreshed-again S l original before after f =
     let h : length b ≤ length after = omega (arith, f .fits, f .size) in
     let s : front b after ≡ after =
     ap (λ (k : ℕ). b ++ drop k after) n ∙ ap (λ (l : List ℕ). l ++ drop (length original) after) (sym (f .bytes)) ∙ take-append-drop (length original) after in
-    rw (d, le-ltb (length after) (length b) h) (ap (outcome committed) s)
+    rw (d, le-ltb (length after) (length b) h) (ap (refreshOutcome committed) s)

@@ -16,7 +16,7 @@ use Rattle.record.specs.declared.reader.Reading.{Reading}
 use Rattle.record.specs.Answer.{committed, conflict, tooOld, malformed, ahead}
 use Rattle.record.specs.Record.{Rec, Valid, keyOf}
 use Rattle.record.specs.Parse.{parse}
-use Rattle.record.specs.Reader.{Lists, Outcome, outcome, lists, front, roomy, filled, readOf, lowOf, highOf}
+use Rattle.record.specs.Reader.{Lists, ReadOutcome, readOutcome, lists, front, roomy, filled, readOf, lowOf, highOf}
 use Rattle.record.proofs.RoundTrip.{bytesOf-parse}
 use Rattle.rules.specs.Lists.{if_then_else_}
 use Rattle.rules.specs.State.{State}
@@ -24,10 +24,10 @@ use Rattle.rules.specs.Footprint.{reach}
 use Rattle.rules.specs.Tree.{treeOf, walk}
 use Rattle.rules.specs.Verdict as Verdict
 use Rattle.rules.specs.Verdict.{conflicts}
-use Rattle.rules.specs.Refresh.{done, refused, answerTo, at, refresh}
+use Rattle.rules.specs.Refresh.{done, refused, refreshedAnswer, at, refresh}
 use Rattle.pool.specs.Image.{Arrangement, Image, stateOf}
-use Rattle.walk.specs.Sorted.{Sorted, footprint}
-use Rattle.walk.proofs.Reach.{sorted-valid, footprint-reach}
+use Rattle.conflict_search.specs.Sorted.{Sorted, footprint}
+use Rattle.conflict_search.proofs.Reach.{sorted-valid, footprint-reach}
 use Rattle.judge.specs.declared.judged.Judged.{Judged}
 use Rattle.judge.specs.Judged.{judged, judgedOf}
 
@@ -73,7 +73,7 @@ pub record Taken (bs : List ℕ) (a : Reading) (l : Lists) : Type 0 where
   pub lows-inside : a .scans ≤ length (l .lows)
   pub highs-inside : a .scans ≤ length (l .highs)
 
-module _ (bs : List ℕ) (bytes : Bytes bs) (before after : Lists) (room : Roomy before) (a : Reading) (e : outcome a after ≡ readOf (parse bs) before) where
+module _ (bs : List ℕ) (bytes : Bytes bs) (before after : Lists) (room : Roomy before) (a : Reading) (e : readOutcome a after ≡ readOf (parse bs) before) where
   -- a valid record finds room
   finds-room : (r : Rec) → Valid r → roomy r before ≡ true
   finds-room r v =
@@ -92,7 +92,7 @@ module _ (bs : List ℕ) (bytes : Bytes bs) (before after : Lists) (room : Roomy
   readingOf r = record { answer = committed; snapshot = r .snapshot; points = length (r .points); scans = length (r .scans) }
 
   -- a record was read
-  was-read : (r : Rec) → parse bs ≡ some r → outcome a after ≡ outcome (readingOf r) (filled r before)
+  was-read : (r : Rec) → parse bs ≡ some r → readOutcome a after ≡ readOutcome (readingOf r) (filled r before)
   unfolding readOf
   was-read r p = e ∙ simp (p, finds-room r (bytesOf-parse bs r bytes p .0))
 
@@ -102,7 +102,7 @@ module _ (bs : List ℕ) (bytes : Bytes bs) (before after : Lists) (room : Roomy
     where
       go : (o : Option Rec) → parse bs ≡ o → o ≡ none
       go none p = refl
-      go (some r) p = absurd (n (ap (λ (o : Outcome). o .reading .answer .number) (was-read r p)))
+      go (some r) p = absurd (n (ap (λ (o : ReadOutcome). o .reading .answer .number) (was-read r p)))
 
   -- answer 0 means that they are one
   pub taken : a .answer .number ≡ 0 → Taken bs a after
@@ -111,21 +111,21 @@ module _ (bs : List ℕ) (bytes : Bytes bs) (before after : Lists) (room : Roomy
     where
       go : (o : Option Rec) → parse bs ≡ o → Taken bs a after
       go none p =
-          let q : outcome a after ≡ readOf none before = e ∙ ap (λ (o : Option Rec). readOf o before) p in
-          absurd (omega (arith, ap (λ (o : Outcome). o .reading .answer .number) q))
+          let q : readOutcome a after ≡ readOf none before = e ∙ ap (λ (o : Option Rec). readOf o before) p in
+          absurd (omega (arith, ap (λ (o : ReadOutcome). o .reading .answer .number) q))
       go (some r) p =
-          let f : outcome a after ≡ outcome (readingOf r) (filled r before) = was-read r p in
-          let points : a .points ≡ length (map keyOf (r .points)) = ap (λ (o : Outcome). o .reading .points) f ∙ sym (length-map (r .points) keyOf) in
-          let lows : a .scans ≡ length (map lowOf (r .scans)) = ap (λ (o : Outcome). o .reading .scans) f ∙ sym (length-map (r .scans) lowOf) in
-          let highs : a .scans ≡ length (map highOf (r .scans)) = ap (λ (o : Outcome). o .reading .scans) f ∙ sym (length-map (r .scans) highOf) in
-          let ek : after .keys ≡ front (map keyOf (r .points)) (before .keys) = ap (λ (o : Outcome). o .left .keys) f in
-          let el : after .lows ≡ front (map lowOf (r .scans)) (before .lows) = ap (λ (o : Outcome). o .left .lows) f in
-          let eh : after .highs ≡ front (map highOf (r .scans)) (before .highs) = ap (λ (o : Outcome). o .left .highs) f in
+          let f : readOutcome a after ≡ readOutcome (readingOf r) (filled r before) = was-read r p in
+          let points : a .points ≡ length (map keyOf (r .points)) = ap (λ (o : ReadOutcome). o .reading .points) f ∙ sym (length-map (r .points) keyOf) in
+          let lows : a .scans ≡ length (map lowOf (r .scans)) = ap (λ (o : ReadOutcome). o .reading .scans) f ∙ sym (length-map (r .scans) lowOf) in
+          let highs : a .scans ≡ length (map highOf (r .scans)) = ap (λ (o : ReadOutcome). o .reading .scans) f ∙ sym (length-map (r .scans) highOf) in
+          let ek : after .keys ≡ front (map keyOf (r .points)) (before .keys) = ap (λ (o : ReadOutcome). o .left .keys) f in
+          let el : after .lows ≡ front (map lowOf (r .scans)) (before .lows) = ap (λ (o : ReadOutcome). o .left .lows) f in
+          let eh : after .highs ≡ front (map highOf (r .scans)) (before .highs) = ap (λ (o : ReadOutcome). o .left .highs) f in
           record {
             r = r;
             is = p;
             valid = bytesOf-parse bs r bytes p .0;
-            snapshot = ap (λ (o : Outcome). o .reading .snapshot) f;
+            snapshot = ap (λ (o : ReadOutcome). o .reading .snapshot) f;
             keys = rw ek (front-taken (map keyOf (r .points)) (before .keys) (a .points) points);
             lows = rw el (front-taken (map lowOf (r .scans)) (before .lows) (a .scans) lows);
             highs = rw eh (front-taken (map highOf (r .scans)) (before .highs) (a .scans) highs);
@@ -139,21 +139,21 @@ module _ (bs : List ℕ) (bytes : Bytes bs) (before after : Lists) (room : Roomy
 -- the same tests in the same order
 same-tests : (b₁ b₂ b₃ : Bool) (n : ℕ) (r : Rec)
     → (if b₁ then judged ahead 0 else if b₂ then judged tooOld 0 else if b₃ then judged conflict n else judged committed n) .answer
-    ≡ answerTo (if b₁ then refused Verdict.ahead else if b₂ then refused Verdict.tooOld else if b₃ then refused Verdict.conflict else done r)
+    ≡ refreshedAnswer (if b₁ then refused Verdict.ahead else if b₂ then refused Verdict.tooOld else if b₃ then refused Verdict.conflict else done r)
 same-tests true b₂ b₃ n r = refl
 same-tests false true b₃ n r = refl
 same-tests false false true n r = refl
 same-tests false false false n r = refl
 
 -- rows 5, 2 and 1 are those of the rules
-judged-answer : (S : State) (r : Rec) → judgedOf S (r .snapshot) (reach r) .answer ≡ answerTo (refresh S (some r))
+judged-answer : (S : State) (r : Rec) → judgedOf S (r .snapshot) (reach r) .answer ≡ refreshedAnswer (refresh S (some r))
 unfolding judgedOf refresh
 judged-answer S r =
     same-tests (ltb (S .p) (r .snapshot)) (ltb (S .Z) (S .p - r .snapshot)) (conflicts S r) (walk (r .snapshot) (reach r) (treeOf 32 0 (S .kept)) .looks) (at (S .p) r)
 
 module _ (m bs : List ℕ) where
   -- 4 for bytes that are no record
-  pub asked-malformed : parse bs ≡ none → (A : Arrangement) → Image m A → malformed ≡ answerTo (refresh (stateOf A) (parse bs))
+  pub asked-malformed : parse bs ≡ none → (A : Arrangement) → Image m A → malformed ≡ refreshedAnswer (refresh (stateOf A) (parse bs))
   unfolding refresh
   asked-malformed e A i = rw e
 
@@ -165,9 +165,9 @@ module _ (m bs : List ℕ) where
     -- and its answer is refresh's
     pub asked-judged : (j : Judged)
         → ((A : Arrangement) → Image m A → j ≡ judgedOf (stateOf A) (a .snapshot) (footprint (take (a .points) (l .keys)) (take (a .scans) (l .lows)) (take (a .scans) (l .highs))))
-        → (A : Arrangement) → Image m A → j .answer ≡ answerTo (refresh (stateOf A) (parse bs))
+        → (A : Arrangement) → Image m A → j .answer ≡ refreshedAnswer (refresh (stateOf A) (parse bs))
     asked-judged j k A i =
         let f : footprint (take (a .points) (l .keys)) (take (a .scans) (l .lows)) (take (a .scans) (l .highs)) ≡ reach (t .r) = rw (t .keys, t .lows, t .highs) (footprint-reach (t .r)) in
         ap (λ (x : Judged). x .answer) (k A i) ∙ ap (λ (x : List Scan). judgedOf (stateOf A) (a .snapshot) x .answer) f
         ∙ ap (λ (s : ℕ). judgedOf (stateOf A) s (reach (t .r)) .answer) (t .snapshot) ∙ judged-answer (stateOf A) (t .r)
-        ∙ ap (λ (o : Option Rec). answerTo (refresh (stateOf A) o)) (sym (t .is))
+        ∙ ap (λ (o : Option Rec). refreshedAnswer (refresh (stateOf A) o)) (sym (t .is))

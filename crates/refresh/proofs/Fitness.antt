@@ -11,7 +11,7 @@ use Rattle.record.specs.Answer.{unfitPool}
 use Rattle.record.specs.Parse.{parse}
 use Rattle.pool.specs.Image.{Arrangement, Image, Fit, stateOf}
 use Rattle.fit.specs.Whole.{Decides}
-use Rattle.refresh.specs.Refreshed.{outcome, refreshedOf, RefreshIs}
+use Rattle.refresh.specs.Refreshed.{refreshOutcome, refreshedOf, RefreshIs}
 
 -- a test does not have two values
 two-values : {P : Type 0} (b : Bool) → b ≡ true → b ≡ false → P
@@ -30,5 +30,5 @@ module _ (m : List ℕ) (b : Bool) (decides : Decides (Fit m) b) where
 
     -- the answer of `refresh_fit`
     pub returns-fit : not b ≡ false → (a : Answer) (after : List ℕ)
-        → ((A : Arrangement) → Image m A → outcome a after ≡ refreshedOf (stateOf A) (parse original) before) → RefreshIs m original before a after
+        → ((A : Arrangement) → Image m A → refreshOutcome a after ≡ refreshedOf (stateOf A) (parse original) before) → RefreshIs m original before a after
     returns-fit h a after f = record { fit = f; unfit = λ n. absurd (n (known-fit h)) }

@@ -9,7 +9,7 @@ use Rattle.record.specs.declared.answer.Answer.{Answer}
 use Rattle.record.specs.Parse.{parse}
 use Rattle.rules.specs.Refresh.{refresh}
 use Rattle.pool.specs.Image.{Fit, stateOf}
-use Rattle.refresh.specs.Refreshed.{Outcome, outcome, RefreshIs}
+use Rattle.refresh.specs.Refreshed.{RefreshOutcome, refreshOutcome, RefreshIs}
 use Rattle.refresh.proofs.Output.{left-untouched}
 
 -- what can be told, and holds if the pool is fit and if it is not, holds
@@ -26,19 +26,19 @@ same-bytes : (x y : List ℕ) → Dec (x ≡ y)
 same-bytes x y = List-discrete ℕ-discrete x y
 
 module _ (m original before : List ℕ) where
-  -- one outcome if the pool is fit
-  meets : (a b : Answer) (x y : List ℕ) → RefreshIs m original before a x → RefreshIs m original before b y → Fit m → outcome a x ≡ outcome b y
+  -- one refreshOutcome if the pool is fit
+  meets : (a b : Answer) (x y : List ℕ) → RefreshIs m original before a x → RefreshIs m original before b y → Fit m → refreshOutcome a x ≡ refreshOutcome b y
   meets a b x y r s f = r .fit (f .arrangement) (f .image) ∙ sym (s .fit (f .arrangement) (f .image))
 
-  -- one outcome if it is not
-  misses : (a b : Answer) (x y : List ℕ) → RefreshIs m original before a x → RefreshIs m original before b y → (Fit m → ⊥) → outcome a x ≡ outcome b y
+  -- one refreshOutcome if it is not
+  misses : (a b : Answer) (x y : List ℕ) → RefreshIs m original before a x → RefreshIs m original before b y → (Fit m → ⊥) → refreshOutcome a x ≡ refreshOutcome b y
   misses a b x y r s n = r .unfit n ∙ sym (s .unfit n)
 
   -- one answer, and one content of the whole output afterwards
   pub refresh-only : (a b : Answer) (x y : List ℕ) → RefreshIs m original before a x → RefreshIs m original before b y → (a ≡ b) × (x ≡ y)
   refresh-only a b x y r s = (
-    by-fitness m (same-answer a b) (λ f. ap (λ (o : Outcome). o .answer) (meets a b x y r s f)) (λ n. ap (λ (o : Outcome). o .answer) (misses a b x y r s n)),
-    by-fitness m (same-bytes x y) (λ f. ap (λ (o : Outcome). o .output) (meets a b x y r s f)) (λ n. ap (λ (o : Outcome). o .output) (misses a b x y r s n)),
+    by-fitness m (same-answer a b) (λ f. ap (λ (o : RefreshOutcome). o .answer) (meets a b x y r s f)) (λ n. ap (λ (o : RefreshOutcome). o .answer) (misses a b x y r s n)),
+    by-fitness m (same-bytes x y) (λ f. ap (λ (o : RefreshOutcome). o .output) (meets a b x y r s f)) (λ n. ap (λ (o : RefreshOutcome). o .output) (misses a b x y r s n)),
   )
 
   -- "on any other answer the output is untouched"
@@ -46,4 +46,4 @@ module _ (m original before : List ℕ) where
   untouched a after r n =
       by-fitness m (same-bytes after before)
       (λ f. left-untouched before a after (refresh (stateOf (f .arrangement)) (parse original)) (r .fit (f .arrangement) (f .image)) n)
-      (λ u. ap (λ (o : Outcome). o .output) (r .unfit u))
+      (λ u. ap (λ (o : RefreshOutcome). o .output) (r .unfit u))

@@ -20,37 +20,37 @@ use Rattle.record.specs.Reader.{front}
 use Rattle.record.proofs.RoundTrip.{parse-bytesOf, bytesOf-parse}
 use Rattle.rules.specs.Lists.{if_then_else_}
 use Rattle.rules.specs.State.{State, lastPosition}
-use Rattle.rules.specs.Refresh.{Refreshed, done, refused, answerTo, at, refresh}
+use Rattle.rules.specs.Refresh.{Refreshed, done, refused, refreshedAnswer, at, refresh}
 use Rattle.rules.proofs.Refreshing.{Refreshes, refresh-exactly, refreshed-valid}
-use Rattle.refresh.specs.Refreshed.{Outcome, outcome, leftBy, refreshedOf}
+use Rattle.refresh.specs.Refreshed.{RefreshOutcome, refreshOutcome, leftBy, refreshedOf}
 use Rattle.refresh.proofs.NewSnapshot.{same-size, others-as-before}
 use Rattle.refresh.proofs.Returns.{Goes, goes}
 
 module _ (before : List ℕ) (a : Answer) (after : List ℕ) where
   -- the test of the room, by its value
   by-room : (r : Rec) (b : Bool) → ltb (length before) (length (bytesOf r)) ≡ b
-      → outcome a after ≡ (if b then outcome outputShort before else outcome committed (front (bytesOf r) before))
+      → refreshOutcome a after ≡ (if b then refreshOutcome outputShort before else refreshOutcome committed (front (bytesOf r) before))
       → ((a .number ≡ 0 → ⊥) → after ≡ before) × (a .number ≡ 0 → (length (bytesOf r) ≤ length before) × (after ≡ front (bytesOf r) before))
-  by-room r true t e = (λ _. ap (λ (o : Outcome). o .output) e, λ z. absurd (omega (arith, ap (λ (o : Outcome). o .answer .number) e)))
+  by-room r true t e = (λ _. ap (λ (o : RefreshOutcome). o .output) e, λ z. absurd (omega (arith, ap (λ (o : RefreshOutcome). o .answer .number) e)))
   by-room r false t e =
-      (λ n. absurd (n (ap (λ (o : Outcome). o .answer .number) e)), λ z. (ltb-false _ _ t, ap (λ (o : Outcome). o .output) e))
+      (λ n. absurd (n (ap (λ (o : RefreshOutcome). o .answer .number) e)), λ z. (ltb-false _ _ t, ap (λ (o : RefreshOutcome). o .output) e))
 
   -- an answer other than 0 leaves the output as it was
-  pub left-untouched : (x : Refreshed) → outcome a after ≡ leftBy x before → (a .number ≡ 0 → ⊥) → after ≡ before
+  pub left-untouched : (x : Refreshed) → refreshOutcome a after ≡ leftBy x before → (a .number ≡ 0 → ⊥) → after ≡ before
   unfolding leftBy
   left-untouched (done r) e n = by-room r (ltb (length before) (length (bytesOf r))) refl e .0 n
-  left-untouched (refused v) e n = ap (λ (o : Outcome). o .output) e
+  left-untouched (refused v) e n = ap (λ (o : RefreshOutcome). o .output) e
 
   -- answer 0 has found room
-  left-front : (r : Rec) → outcome a after ≡ leftBy (done r) before → a .number ≡ 0 → (length (bytesOf r) ≤ length before) × (after ≡ front (bytesOf r) before)
+  left-front : (r : Rec) → refreshOutcome a after ≡ leftBy (done r) before → a .number ≡ 0 → (length (bytesOf r) ≤ length before) × (after ≡ front (bytesOf r) before)
   unfolding leftBy
   left-front r e z = by-room r (ltb (length before) (length (bytesOf r))) refl e .1 z
 
   -- and nothing was refused
-  left-zero : (x : Refreshed) → outcome a after ≡ leftBy x before → a .number ≡ 0 → answerTo x .number ≡ 0
+  left-zero : (x : Refreshed) → refreshOutcome a after ≡ leftBy x before → a .number ≡ 0 → refreshedAnswer x .number ≡ 0
   unfolding leftBy
   left-zero (done r) e z = refl
-  left-zero (refused v) e z = sym (ap (λ (o : Outcome). o .answer .number) e) ∙ z
+  left-zero (refused v) e z = sym (ap (λ (o : RefreshOutcome). o .answer .number) e) ∙ z
 
 -- AFTER 0
 
@@ -75,7 +75,7 @@ pub record Refreshable (S : State) (original before : List ℕ) : Type 0 where
   pub room : length original ≤ length before
 
 module _ (S : State) (last : S .p ≤ lastPosition) (original before : List ℕ) (y : Bytes original) (a : Answer) (after : List ℕ)
-    (e : outcome a after ≡ refreshedOf S (parse original) before) where
+    (e : refreshOutcome a after ≡ refreshedOf S (parse original) before) where
   -- a record was refreshed
   went : a .number ≡ 0 → Goes S (parse original)
   went z = goes S (parse original) (left-zero before a after (refresh S (parse original)) e z)
@@ -146,5 +146,5 @@ module _ (S : State) (last : S .p ≤ lastPosition) (original before : List ℕ)
         let n : length (bytesOf (at (S .p) (w .r))) ≡ length original = same-size (S .p) (w .r) ∙ ap length (sym (bytesOf-parse original (w .r) y (w .is) .1)) in
         let h : length (bytesOf (at (S .p) (w .r))) ≤ length before = omega (arith, w .room) in
         let q : leftBy (done (at (S .p) (w .r))) before .answer .number ≡ 0 = (rw (le-ltb (length before) (length (bytesOf (at (S .p) (w .r)))) h)) in
-        ap (λ (o : Outcome). o .answer .number) (e ∙ ap (λ (x : Refreshed). leftBy x before) d) ∙ q,
+        ap (λ (o : RefreshOutcome). o .answer .number) (e ∙ ap (λ (x : Refreshed). leftBy x before) d) ∙ q,
   )

@@ -9,7 +9,7 @@ use Rattle.words.specs.Word.{Bytes}
 use Rattle.record.specs.declared.answer.Answer.{Answer}
 use Rattle.record.specs.Answer.{committed}
 use Rattle.pool.specs.Image.{Arrangement, Image, stateOf}
-use Rattle.refresh.specs.Refreshed.{Outcome, outcome, RefreshIs}
+use Rattle.refresh.specs.Refreshed.{RefreshOutcome, refreshOutcome, RefreshIs}
 use Rattle.refresh.proofs.Output.{FrontIs, Refreshable, after-zero, zero-exactly}
 use Rattle.refresh.proofs.Again.{refreshed-again}
 
@@ -26,5 +26,5 @@ module _ (m : List ℕ) (A : Arrangement) (i : Image m A) (original before : Lis
   -- a second refresh at the same place, of the front of the output and into the same output, answers 0 and changes nothing
   pub refresh-twice : a .number ≡ 0 → (b : Answer) (again : List ℕ) → RefreshIs m (take (length original) after) after b again → (b ≡ committed) × (again ≡ after)
   refresh-twice z b again s =
-      let e : outcome b again ≡ outcome committed after = s .fit A i ∙ refreshed-again (stateOf A) (i .arranged .lawful) original before after (refresh-front z) in
-      (ap (λ (o : Outcome). o .answer) e, ap (λ (o : Outcome). o .output) e)
+      let e : refreshOutcome b again ≡ refreshOutcome committed after = s .fit A i ∙ refreshed-again (stateOf A) (i .arranged .lawful) original before after (refresh-front z) in
+      (ap (λ (o : RefreshOutcome). o .answer) e, ap (λ (o : RefreshOutcome). o .output) e)

@@ -21,22 +21,22 @@ use Rattle.nodes.specs.Nodes.{headerAt}
 use Rattle.rules.specs.Lists.{if_then_else_}
 use Rattle.rules.specs.State.{State}
 use Rattle.rules.specs.Verdict.{conflict, tooOld, ahead, conflicts}
-use Rattle.rules.specs.Refresh.{Refreshed, done, refused, answerTo, at, refresh}
+use Rattle.rules.specs.Refresh.{Refreshed, done, refused, refreshedAnswer, at, refresh}
 use Rattle.pool.specs.Image.{Arrangement, Image, Fit, stateOf}
-use Rattle.refresh.specs.Refreshed.{outcome, leftBy, refreshedOf}
+use Rattle.refresh.specs.Refreshed.{refreshOutcome, leftBy, refreshedOf}
 use Rattle.refresh.proofs.NewSnapshot.{same-size, snapshot-stored}
 
 -- WHICH ANSWER
 
 -- a refusal's answer leaves the output as it was
-refused-is : (before : List ℕ) (a : Answer) (x : Refreshed) → a ≡ answerTo x → (a .number ≡ 0 → ⊥) → outcome a before ≡ leftBy x before
+refused-is : (before : List ℕ) (a : Answer) (x : Refreshed) → a ≡ refreshedAnswer x → (a .number ≡ 0 → ⊥) → refreshOutcome a before ≡ leftBy x before
 unfolding leftBy
 refused-is before a (done r) e n = absurd (n (ap (λ (b : Answer). b .number) e))
-refused-is before a (refused v) e n = ap (λ (b : Answer). outcome b before) e
+refused-is before a (refused v) e n = ap (λ (b : Answer). refreshOutcome b before) e
 
 -- the three refusals are not 0
 only-done : (b₁ b₂ b₃ : Bool) (r : Rec)
-    → answerTo (if b₁ then refused ahead else if b₂ then refused tooOld else if b₃ then refused conflict else done r) .number ≡ 0
+    → refreshedAnswer (if b₁ then refused ahead else if b₂ then refused tooOld else if b₃ then refused conflict else done r) .number ≡ 0
     → (if b₁ then refused ahead else if b₂ then refused tooOld else if b₃ then refused conflict else done r) ≡ done r
 only-done true b₂ b₃ r e = absurd (omega arith)
 only-done false true b₃ r e = absurd (omega arith)
@@ -50,7 +50,7 @@ pub record Goes (S : State) (m : Option Rec) : Type 0 where
   pub does : refresh S m ≡ done (at (S .p) r)
 
 -- answer 0 means that
-pub goes : (S : State) (m : Option Rec) → answerTo (refresh S m) .number ≡ 0 → Goes S m
+pub goes : (S : State) (m : Option Rec) → refreshedAnswer (refresh S m) .number ≡ 0 → Goes S m
 unfolding refresh
 goes S none e = absurd (omega arith)
 goes S (some r) e =
@@ -72,7 +72,7 @@ module _ (S : State) (bs before : List ℕ) (bytes : Bytes bs) (g : Goes S (pars
   long = omega (arith, valid-size (g .r) (bytesOf-parse bs (g .r) bytes (g .is) .0) .least, ap length lent)
 
   -- less room than the record needs
-  too-short : length before < length bs → outcome outputShort before ≡ refreshedOf S (parse bs) before
+  too-short : length before < length bs → refreshOutcome outputShort before ≡ refreshedOf S (parse bs) before
   unfolding leftBy
   too-short h = rw (g .does, lt-ltb (length before) (length (bytesOf (at (S .p) (g .r)))) (rw size h))
 
@@ -83,15 +83,15 @@ module _ (S : State) (bs before : List ℕ) (bytes : Bytes bs) (g : Goes S (pars
       ∙ ap (λ (n : ℕ). bytesOf (at (S .p) (g .r)) ++ drop n before) (sym size)
 
   -- room enough
-  long-enough : length bs ≤ length before → outcome committed (putWord 4 (front bs before) 3 (S .p)) ≡ refreshedOf S (parse bs) before
+  long-enough : length bs ≤ length before → refreshOutcome committed (putWord 4 (front bs before) 3 (S .p)) ≡ refreshedOf S (parse bs) before
   unfolding leftBy
-  long-enough h = rw (g .does, le-ltb (length before) (length (bytesOf (at (S .p) (g .r)))) (rw size h)) (ap (outcome committed) put-over)
+  long-enough h = rw (g .does, le-ltb (length before) (length (bytesOf (at (S .p) (g .r)))) (rw size h)) (ap (refreshOutcome committed) put-over)
 
 -- THE RETURNS
 
-module _ (m bs before : List ℕ) (bytes : Bytes bs) (a : Answer) (asked : (A : Arrangement) → Image m A → a ≡ answerTo (refresh (stateOf A) (parse bs))) where
+module _ (m bs before : List ℕ) (bytes : Bytes bs) (a : Answer) (asked : (A : Arrangement) → Image m A → a ≡ refreshedAnswer (refresh (stateOf A) (parse bs))) where
   -- 4, 5, 2 or 1
-  pub returns-refused : (a .number ≡ 0 → ⊥) → (A : Arrangement) → Image m A → outcome a before ≡ refreshedOf (stateOf A) (parse bs) before
+  pub returns-refused : (a .number ≡ 0 → ⊥) → (A : Arrangement) → Image m A → refreshOutcome a before ≡ refreshedOf (stateOf A) (parse bs) before
   returns-refused n A i = refused-is before a (refresh (stateOf A) (parse bs)) (asked A i) n
 
   module _ (zero : a .number ≡ 0) where
@@ -100,7 +100,7 @@ module _ (m bs before : List ℕ) (bytes : Bytes bs) (a : Answer) (asked : (A : 
     gone A i = goes (stateOf A) (parse bs) (ap (λ (b : Answer). b .number) (sym (asked A i)) ∙ zero)
 
     -- 8
-    pub returns-short : length before < length bs → (A : Arrangement) → Image m A → outcome outputShort before ≡ refreshedOf (stateOf A) (parse bs) before
+    pub returns-short : length before < length bs → (A : Arrangement) → Image m A → refreshOutcome outputShort before ≡ refreshedOf (stateOf A) (parse bs) before
     returns-short h A i = too-short (stateOf A) bs before bytes (gone A i) h
 
     -- the record reaches past its snapshot
@@ -114,8 +114,8 @@ module _ (m bs before : List ℕ) (bytes : Bytes bs) (a : Answer) (asked : (A : 
 
       -- 0
       pub returns-done : (h : Header) → h ≡ headerAt m → (after : List ℕ) → after ≡ putWord 4 copied 3 (h .position)
-          → (A : Arrangement) → Image m A → outcome committed after ≡ refreshedOf (stateOf A) (parse bs) before
+          → (A : Arrangement) → Image m A → refreshOutcome committed after ≡ refreshedOf (stateOf A) (parse bs) before
       returns-done h eh after put A i =
           let p : h .position ≡ A .p = ap (λ (x : Header). x .position) (eh ∙ i .header) in
-          ap (outcome committed) (put ∙ ap (λ (l : List ℕ). putWord 4 l 3 (h .position)) copy ∙ ap (putWord 4 (front bs before) 3) p)
+          ap (refreshOutcome committed) (put ∙ ap (λ (l : List ℕ). putWord 4 l 3 (h .position)) copy ∙ ap (putWord 4 (front bs before) 3) p)
           ∙ long-enough (stateOf A) bs before bytes (gone A i) room

@@ -13,31 +13,31 @@ use Rattle.record.specs.Parse.{parse}
 use Rattle.record.specs.Reader.{front}
 use Rattle.rules.specs.Lists.{if_then_else_}
 use Rattle.rules.specs.State.{State}
-use Rattle.rules.specs.Verdict.{answerOf}
+use Rattle.rules.specs.Verdict.{verdictAnswer}
 use Rattle.rules.specs.Refresh.{Refreshed, done, refused, refresh}
 use Rattle.pool.specs.Image.{Arrangement, Image, Fit, stateOf}
 
 -- the answer, and the output afterwards
-pub record Outcome : Type 0 where
+pub record RefreshOutcome : Type 0 where
   pub answer : Answer
   pub output : List ℕ
 
 -- the two together
-abbrev pub outcome : Answer → List ℕ → Outcome
-outcome a output = record { answer = a; output = output }
+abbrev pub refreshOutcome : Answer → List ℕ → RefreshOutcome
+refreshOutcome a output = record { answer = a; output = output }
 
 -- a refusal leaves the output untouched; then 8, "the room needed is the record's own size"; on 0 the record is the output's front
-unfoldable pub leftBy : Refreshed → List ℕ → Outcome
-leftBy (refused v) output = outcome (answerOf v) output
+unfoldable pub leftBy : Refreshed → List ℕ → RefreshOutcome
+leftBy (refused v) output = refreshOutcome (verdictAnswer v) output
 leftBy (done r) output =
-    if ltb (length output) (length (bytesOf r)) then outcome outputShort output else
-    outcome committed (front (bytesOf r) output)
+    if ltb (length output) (length (bytesOf r)) then refreshOutcome outputShort output else
+    refreshOutcome committed (front (bytesOf r) output)
 
 -- at a state, for the record that the bytes are, none if they are not well formed, and an output
-abbrev pub refreshedOf : State → Option Rec → List ℕ → Outcome
+abbrev pub refreshedOf : State → Option Rec → List ℕ → RefreshOutcome
 refreshedOf S m output = leftBy (refresh S m) output
 
 -- what `refresh` promises of a pool m, an original and an output as it was: the answer a, and the output afterwards
 pub record RefreshIs (m original before : List ℕ) (a : Answer) (after : List ℕ) : Type 0 where
-  pub fit : (A : Arrangement) → Image m A → outcome a after ≡ refreshedOf (stateOf A) (parse original) before
-  pub unfit : (Fit m → ⊥) → outcome a after ≡ outcome unfitPool before
+  pub fit : (A : Arrangement) → Image m A → refreshOutcome a after ≡ refreshedOf (stateOf A) (parse original) before
+  pub unfit : (Fit m → ⊥) → refreshOutcome a after ≡ refreshOutcome unfitPool before

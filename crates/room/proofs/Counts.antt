@@ -13,7 +13,7 @@ use borrow.Author.Tests.{eq-eqb, ne-eqb, lt-ltb, le-ltb, le-leb, lt-leb, ltb-tru
 use Rattle.record.specs.declared.point.Point.{Point}
 use Rattle.record.specs.declared.point.Point.the-variants.{Read, Put, Delete}
 use Rattle.record.specs.Record.{keyOf}
-use Rattle.record.specs.Record.{Rising as PointsRise}
+use Rattle.record.specs.Record.{PointsRise}
 use Rattle.rules.specs.Lists.{if_then_else_, keep}
 use Rattle.rules.specs.State.{Entry, State, Lawful, Rising, end, link, isLive}
 use Rattle.rules.specs.Footprint.{writesOf}

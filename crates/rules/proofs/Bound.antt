@@ -15,7 +15,7 @@ use Rattle.record.specs.Record.{Rec, Valid}
 use Rattle.record.specs.declared.point.Scan.{Scan}
 use Rattle.rules.specs.State.{State, Lawful}
 use Rattle.rules.specs.Footprint.{reach, meets}
-use Rattle.rules.specs.Verdict.{Verdict, committed, conflict, tooOld, noRoom, malformed, ahead, usedUp, verdict}
+use Rattle.rules.specs.Verdict.{Verdict, committed, conflict, tooOld, noRoom, malformed, ahead, positionsUsedUp, verdict}
 use Rattle.rules.specs.Tree.{Tree, node, newest, Walked, stop, descend, walk, walkOf, looksFor, looksOf}
 use Rattle.rules.proofs.Tests.{if-ind, is-true, is-false, le-or-lt, left-of, right-of, nor-left, nor-right}
 use Rattle.rules.proofs.Reach.{hits-of}
@@ -99,7 +99,7 @@ looksFor-bound S r n tooOld h = omega arith
 looksFor-bound S r n noRoom h = h
 looksFor-bound S r n malformed h = omega arith
 looksFor-bound S r n ahead h = omega arith
-looksFor-bound S r n usedUp h = omega arith
+looksFor-bound S r n positionsUsedUp h = omega arith
 
 -- "never exceed 65 + 64·(points + 2·scans)", for any well-formed record and any state
 pub looks-limit : {S : State} {r : Rec} → Lawful S → Valid r → looksOf S (some r) ≤ 65 + 64 * (length (r .points) + 2 * length (r .scans))

@@ -15,12 +15,12 @@ use lib.ListN.{length}
 use Rattle.record.specs.Record.{Rec}
 use Rattle.rules.specs.Lists.{if_then_else_}
 use Rattle.rules.specs.State.{State, lastPosition}
-use Rattle.rules.specs.Verdict.{Verdict, committed, conflict, tooOld, noRoom, malformed, ahead, usedUp, conflicts, verdict, left, next}
+use Rattle.rules.specs.Verdict.{Verdict, committed, conflict, tooOld, noRoom, malformed, ahead, positionsUsedUp, conflicts, verdict, left, next}
 use Rattle.rules.specs.Log.{Log, stateAt}
 use Rattle.rules.specs.Tree.{walkOf, looksFor, looksOf}
-use Rattle.rules.specs.Refresh.{at, Refreshed, done, refused, refresh, onward, chain}
+use Rattle.rules.specs.Refresh.{at, Refreshed, done, refused, refresh, andThen, chain}
 use Rattle.rules.specs.Demands.{InOrder, lastOf}
-use Rattle.rules.specs.Outcome.{MeldsAs, Outcome, stopped, carried}
+use Rattle.rules.specs.ChainOutcome.{AnswersAlike, ChainOutcome, stopped, carried}
 use Rattle.rules.proofs.Tests.{is-true, is-false, test, le-or-lt}
 use Rattle.rules.proofs.Near.{refresh-near, verdict-near, verdict-last, room-at}
 use Rattle.rules.proofs.Places.{place-p, place-Z, stays, same-conflicts, walks}
@@ -28,7 +28,7 @@ use Rattle.rules.proofs.Places.{place-p, place-Z, stays, same-conflicts
 -- what a chain comes to, at any place, the last position among them: where melding answers 6, a conflict is still said by the entries
 pub data Fate (S L : State) (r : Rec) (c : Refreshed) : Type 0 where
   halted : c ≡ refused conflict → T (conflicts S r) → Fate S L r c
-  went : (r′ : Rec) → c ≡ done r′ → refresh L (some r) ≡ done r′ → MeldsAs S r′ r → Fate S L r c
+  went : (r′ : Rec) → c ≡ done r′ → refresh L (some r) ≡ done r′ → AnswersAlike S r′ r → Fate S L r c
 
 -- no more looks in the walk, no more looks reported
 looksFor-le : (S : State) (r′ r : Rec) (a : Verdict) → walkOf S (some r′) .looks ≤ walkOf S (some r) .looks → looksFor S (some r′) a ≤ looksFor S (some r) a
@@ -38,7 +38,7 @@ looksFor-le S r′ r tooOld h = le-refl 0
 looksFor-le S r′ r noRoom h = h
 looksFor-le S r′ r malformed h = le-refl 0
 looksFor-le S r′ r ahead h = le-refl 0
-looksFor-le S r′ r usedUp h = le-refl 0
+looksFor-le S r′ r positionsUsedUp h = le-refl 0
 
 module _ (N Z : ℕ) (log : Log) (p : ℕ) (fits : p ≤ length log) (positions : p ≤ lastPosition) where
   -- the state after q records
@@ -65,7 +65,7 @@ module _ (N Z : ℕ) (log : Log) (p : ℕ) (fits : p ≤ length log) (positions 
         (le-or-lt lastPosition (St p .p))
 
     -- the refreshed record melds as the original, in no more looks
-    melds : MeldsAs (St p) (at q r) r
+    melds : AnswersAlike (St p) (at q r) r
     unfolding next looksOf
     melds = record {
       answer = same-answer;
@@ -84,7 +84,7 @@ module _ (N Z : ℕ) (log : Log) (p : ℕ) (fits : p ≤ length log) (positions 
   last-from q (q′ ∷ qs) o = let x = last-from q′ qs (o .1) in (omega arith, x .1)
 
   -- a conflict at the first stop
-  halts : (r : Rec) (q : ℕ) (L : State) (f : Rec → Refreshed) → r .snapshot ≤ q → q ≤ p → p ≤ r .snapshot + Z → T (conflicts (St q) r) → Fate (St p) L r (onward (refresh (St q) (some r)) f)
+  halts : (r : Rec) (q : ℕ) (L : State) (f : Rec → Refreshed) → r .snapshot ≤ q → q ≤ p → p ≤ r .snapshot + Z → T (conflicts (St q) r) → Fate (St p) L r (andThen (refresh (St q) (some r)) f)
   halts r q L f low top near t = halted
       (rw (refresh-at r q low top (omega arith), is-true (conflicts (St q) r) t))
       (stays N Z log p fits positions r q p low top (le-refl p) near t)
@@ -120,7 +120,7 @@ module _ (N Z : ℕ) (log : Log) (p : ℕ) (fits : p ≤ length log) (positions 
 -- DEMAND 3
 
 -- at a place with a position left the conflict is the answer
-outcome : {S L : State} {r : Rec} {c : Refreshed} → r .snapshot ≤ S .p → S .p ≤ r .snapshot + S .Z → S .p < lastPosition → Fate S L r c → Outcome S L r c
+outcome : {S L : State} {r : Rec} {c : Refreshed} → r .snapshot ≤ S .p → S .p ≤ r .snapshot + S .Z → S .p < lastPosition → Fate S L r c → ChainOutcome S L r c
 outcome {S} {L} {r} low near l (halted e t) = stopped e (verdict-near S r low near l ∙ rw (is-true (conflicts S r) t))
 outcome low near l (went r′ e f m) = carried r′ e f m
 
@@ -128,7 +128,7 @@ outcome low near l (went r′ e f m) = carried r′ e f m
 pub demand-three : (N Z : ℕ) (log : Log) (p : ℕ) → p ≤ length log → p < lastPosition
     → (r : Rec) → r .snapshot ≤ p → p - r .snapshot ≤ Z
     → (q : ℕ) (qs : List ℕ) → InOrder (r .snapshot) (q ∷ qs) p
-    → Outcome (stateAt N Z log p) (stateAt N Z log (lastOf q qs)) r (chain (map (stateAt N Z log) (q ∷ qs)) r)
+    → ChainOutcome (stateAt N Z log p) (stateAt N Z log (lastOf q qs)) r (chain (map (stateAt N Z log) (q ∷ qs)) r)
 demand-three N Z log p fits over r low near q qs o =
     let positions : p ≤ lastPosition = omega arith in
     let e = place-p N Z log p fits positions {q = p} (le-refl p) in

@@ -13,14 +13,14 @@ use Rattle.record.specs.declared.point.Point.{Point}
 use Rattle.rules.specs.Lists.{if_then_else_, keep}
 use Rattle.rules.specs.State.{Entry, State, fresh, isLive, Rising, end, link}
 use Rattle.rules.specs.Footprint.{writesOf}
-use Rattle.rules.specs.Verdict.{Verdict, committed, conflict, tooOld, noRoom, malformed, ahead, usedUp, storeAll, young, whole, apply, pointsOf, verdict, left, next}
+use Rattle.rules.specs.Verdict.{Verdict, committed, conflict, tooOld, noRoom, malformed, ahead, positionsUsedUp, storeAll, young, whole, apply, pointsOf, verdict, left, next}
 use Rattle.rules.specs.Log.{Log, WellFormed, after, wrote, commits}
 use Rattle.rules.specs.Lookup.{absent, find, seen, payloadAt, lookup}
 use Rattle.rules.specs.Demands.{lastWrite}
 use Rattle.rules.proofs.Tests.{if-ind, is-true, is-false, test, keep-mem}
 use Rattle.rules.proofs.Sorted.{keep-rising, storeAll-rising}
 use Rattle.rules.proofs.Finding.{find-none, find-mem, find-of, find-storeAll, lastWrite-append, lastWrite-cases}
-use Rattle.rules.specs.Sized.{Sized}
+use Rattle.rules.specs.EntryFits.{EntryFits}
 use Rattle.rules.proofs.Written.{record-sized}
 
 -- what is seen after more writes goes by what was seen before them
@@ -63,7 +63,7 @@ shows-keep z v {es} f = record {
 }
 
 -- writes that are stored come last
-shows-store : (ws : List Entry) {es C : List Entry} → ((e : Entry) → Mem e ws → Sized e) → Shows es C → Shows (storeAll ws es) (C ++ ws)
+shows-store : (ws : List Entry) {es C : List Entry} → ((e : Entry) → Mem e ws → EntryFits e) → Shows es C → Shows (storeAll ws es) (C ++ ws)
 shows-store ws {es} {C} b f = record {
   sorted = storeAll-rising ws (λ e m. b e m .0) (f .sorted);
   sees = λ k. rw (find-storeAll k ws es, lastWrite-append k none C ws) (seen-after k (find k es) (lastWrite k none C) ws (f .sees k));
@@ -81,13 +81,13 @@ shows-store ws {es} {C} b f = record {
     ends e q (inr g) = g (lastWrite (e .key) none C) (find (e .key) es) ∙ q
 
 -- after a commit
-shows-commit : (S : State) {C : List Entry} (ps : List Point) → ((e : Entry) → Mem e (writesOf (S .p + 1) ps) → Sized e) → Shows (S .kept) C → Shows (apply S ps) (C ++ writesOf (S .p + 1) ps)
+shows-commit : (S : State) {C : List Entry} (ps : List Point) → ((e : Entry) → Mem e (writesOf (S .p + 1) ps) → EntryFits e) → Shows (S .kept) C → Shows (apply S ps) (C ++ writesOf (S .p + 1) ps)
 unfolding apply
 shows-commit S {C} ps b f = if-ind (λ (es : List Entry). Shows es (C ++ writesOf (S .p + 1) ps)) (ltb (S .N) (length (whole S ps)))
     (λ _. shows-store (writesOf (S .p + 1) ps) b (shows-keep (S .Z) (S .p + 1) f)) (λ _. shows-store (writesOf (S .p + 1) ps) b f)
 
 -- after a record with any verdict
-shows-left : (S : State) {C : List Entry} (ps : List Point) → ((e : Entry) → Mem e (writesOf (S .p + 1) ps) → Sized e) → Shows (S .kept) C → (a : Verdict)
+shows-left : (S : State) {C : List Entry} (ps : List Point) → ((e : Entry) → Mem e (writesOf (S .p + 1) ps) → EntryFits e) → Shows (S .kept) C → (a : Verdict)
     → Shows (left S ps a .kept) (C ++ wrote (S .p + 1) ps a)
 shows-left S ps b f committed = shows-commit S ps b f
 shows-left S ps b f conflict = rw append-nil f
@@ -95,7 +95,7 @@ shows-left S ps b f tooOld = rw append-nil f
 shows-left S ps b f noRoom = rw append-nil f
 shows-left S ps b f malformed = rw append-nil f
 shows-left S ps b f ahead = rw append-nil f
-shows-left S ps b f usedUp = rw append-nil f
+shows-left S ps b f positionsUsedUp = rw append-nil f
 
 -- after a log
 shows-after : (S : State) {C : List Entry} (ms : Log) → WellFormed ms → Shows (S .kept) C → Shows (after S ms .kept) (C ++ commits S ms)

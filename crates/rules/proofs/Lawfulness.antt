@@ -18,7 +18,7 @@ use Rattle.rules.specs.Log.{Log, WellFormed, after}
 use Rattle.rules.proofs.Tests.{if-ind, no-lt}
 use Rattle.rules.proofs.Stored.{writes-at, apply-mem}
 use Rattle.rules.proofs.Sorted.{keep-rising, storeAll-rising}
-use Rattle.rules.specs.Sized.{Sized}
+use Rattle.rules.specs.EntryFits.{EntryFits}
 use Rattle.rules.proofs.Written.{ValidIf, record-sized}
 
 -- "A new pool has p = 0 and no keys"
@@ -39,7 +39,7 @@ unfolding apply
 apply-few S ps t = if-ind (λ (es : List Entry). length es ≤ S .N) (ltb (S .N) (length (whole S ps))) (λ _. nltb→le (S .N) (count S ps) t) (λ u. nltb→le (S .N) (length (whole S ps)) u)
 
 -- its keys rise
-apply-rising : (S : State) (ps : List Point) → ((e : Entry) → Mem e (writesOf (S .p + 1) ps) → Sized e) → Rising (2 ^ 32) 0 (S .kept) → Rising (2 ^ 32) 0 (apply S ps)
+apply-rising : (S : State) (ps : List Point) → ((e : Entry) → Mem e (writesOf (S .p + 1) ps) → EntryFits e) → Rising (2 ^ 32) 0 (S .kept) → Rising (2 ^ 32) 0 (apply S ps)
 unfolding apply
 apply-rising S ps k r = if-ind (λ (es : List Entry). Rising (2 ^ 32) 0 es) (ltb (S .N) (length (whole S ps)))
     (λ _. storeAll-rising (writesOf (S .p + 1) ps) (λ e m. k e m .0) (keep-rising (young (S .Z) (S .p + 1)) r))
@@ -63,7 +63,7 @@ lawful-on {S} l p = record {
 }
 
 -- one position on, with the writes
-lawful-commit : {S : State} (ps : List Point) → ((e : Entry) → Mem e (writesOf (S .p + 1) ps) → Sized e) → Lawful S → S .p < lastPosition
+lawful-commit : {S : State} (ps : List Point) → ((e : Entry) → Mem e (writesOf (S .p + 1) ps) → EntryFits e) → Lawful S → S .p < lastPosition
     → T (not (ltb (S .N) (count S ps))) → Lawful (step S (apply S ps))
 lawful-commit {S} ps k l p room = record {
   limit-N = l .limit-N;

@@ -9,7 +9,7 @@ use Rattle.record.specs.Record.{Rec}
 use Rattle.rules.specs.Lists.{if_then_else_}
 use Rattle.rules.specs.State.{State, lastPosition}
 use Rattle.rules.specs.Footprint.{reach}
-use Rattle.rules.specs.Verdict.{Verdict, committed, conflict, noRoom, usedUp, conflicts, count, judge, verdict}
+use Rattle.rules.specs.Verdict.{Verdict, committed, conflict, noRoom, positionsUsedUp, conflicts, count, judge, verdict}
 use Rattle.rules.specs.Refresh.{at, done, refused, refresh}
 use Rattle.rules.proofs.Tests.{is-true, no-lt, no-le}
 
@@ -29,7 +29,7 @@ module _ (S : State) (r : Rec) (low : r .snapshot ≤ S .p) (near : S .p ≤ r .
   verdict-near l = rw (no-le {a = lastPosition} {b = S .p} l, no-lt {a = S .p} {b = r .snapshot} low, no-lt {a = S .Z} {b = S .p - r .snapshot} (omega arith))
 
 -- at the last position the answer is 6
-pub verdict-last : (S : State) (m : Option Rec) → lastPosition ≤ S .p → verdict S m ≡ usedUp
+pub verdict-last : (S : State) (m : Option Rec) → lastPosition ≤ S .p → verdict S m ≡ positionsUsedUp
 unfolding verdict
 verdict-last S m l = rw (is-true (leb lastPosition (S .p)) (le→leb lastPosition (S .p) l))
 

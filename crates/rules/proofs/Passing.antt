@@ -10,7 +10,7 @@ use lib.Dec.{T, ltb, leb, nltb→le, nleb→lt, T-not, not-T}
 use Rattle.record.specs.Record.{Rec}
 use Rattle.rules.specs.State.{State, fresh, lastPosition}
 use Rattle.rules.specs.Footprint.{reach}
-use Rattle.rules.specs.Verdict.{Verdict, committed, answerOf, conflicts, count, judge, formed, verdict}
+use Rattle.rules.specs.Verdict.{Verdict, committed, verdictAnswer, conflicts, count, judge, formed, verdict}
 use Rattle.rules.specs.Log.{Log, after, commits}
 use Rattle.rules.specs.Demands.{Beaten, Passes}
 use Rattle.rules.proofs.Tests.{if-ind, is-false, no-lt}
@@ -20,8 +20,8 @@ use Rattle.rules.proofs.RowOne.{of-written, written-of, row-one}
 use Rattle.rules.proofs.Near.{room, verdict-near}
 
 -- two answers with different numbers differ
-numbers : {a b : Verdict} → a ≡ b → answerOf a .number ≡ answerOf b .number
-numbers e = ap (λ (x : Verdict). answerOf x .number) e
+numbers : {a b : Verdict} → a ≡ b → verdictAnswer a .number ≡ verdictAnswer b .number
+numbers e = ap (λ (x : Verdict). verdictAnswer x .number) e
 
 module _ (N Z : ℕ) (log : Log) where
   -- the state where the record stands

@@ -11,7 +11,7 @@ use lib.ListN.{length}
 use Rattle.record.specs.Record.{Rec}
 use Rattle.record.specs.declared.point.Point.{Point}
 use Rattle.rules.specs.State.{Entry, State, lastPosition}
-use Rattle.rules.specs.Verdict.{Verdict, committed, conflict, tooOld, noRoom, malformed, ahead, usedUp, conflicts, count, judge, formed, pointsOf, verdict, left, next}
+use Rattle.rules.specs.Verdict.{Verdict, committed, conflict, tooOld, noRoom, malformed, ahead, positionsUsedUp, conflicts, count, judge, formed, pointsOf, verdict, left, next}
 use Rattle.rules.specs.Log.{Log, after, isWriter, wrote, commits}
 use Rattle.rules.proofs.Tests.{if-ind}
 use Rattle.rules.proofs.Stored.{writes-at}
@@ -50,7 +50,7 @@ left-up S ps tooOld = omega arith
 left-up S ps noRoom = omega arith
 left-up S ps malformed = omega arith
 left-up S ps ahead = omega arith
-left-up S ps usedUp = omega arith
+left-up S ps positionsUsedUp = omega arith
 
 -- no answer changes Z
 left-Z : (S : State) (ps : List Point) (a : Verdict) → left S ps a .Z ≡ S .Z
@@ -60,7 +60,7 @@ left-Z S ps tooOld = refl
 left-Z S ps noRoom = refl
 left-Z S ps malformed = refl
 left-Z S ps ahead = refl
-left-Z S ps usedUp = refl
+left-Z S ps positionsUsedUp = refl
 
 -- no answer changes N
 left-N : (S : State) (ps : List Point) (a : Verdict) → left S ps a .N ≡ S .N
@@ -70,7 +70,7 @@ left-N S ps tooOld = refl
 left-N S ps noRoom = refl
 left-N S ps malformed = refl
 left-N S ps ahead = refl
-left-N S ps usedUp = refl
+left-N S ps positionsUsedUp = refl
 
 -- no log goes back
 pub after-up : (S : State) (ms : Log) → S .p ≤ after S ms .p

@@ -11,7 +11,7 @@ use Rattle.record.specs.Record.{Rec, Valid}
 use Rattle.rules.specs.Lists.{if_then_else_}
 use Rattle.rules.specs.State.{State, lastPosition}
 use Rattle.rules.specs.Verdict.{Verdict, committed, conflict, tooOld, noRoom, ahead, conflicts, count, judge, verdict}
-use Rattle.rules.specs.Refresh.{at, Refreshed, done, refused, answerTo, refresh}
+use Rattle.rules.specs.Refresh.{at, Refreshed, done, refused, refreshedAnswer, refresh}
 use Rattle.rules.proofs.Tests.{if-ind, is-false, no-le}
 use Rattle.rules.proofs.Near.{refresh-near}
 
@@ -25,8 +25,8 @@ pub record Refreshes (S : State) (r r′ : Rec) : Type 0 where
   pub same-scans : r′ .scans ≡ r .scans
 
 -- equal results have equal answer numbers
-numbers : {a b : Refreshed} → a ≡ b → answerTo a .number ≡ answerTo b .number
-numbers e = ap (λ (x : Refreshed). answerTo x .number) e
+numbers : {a b : Refreshed} → a ≡ b → refreshedAnswer a .number ≡ refreshedAnswer b .number
+numbers e = ap (λ (x : Refreshed). refreshedAnswer x .number) e
 
 -- a record refreshed without refusal
 same-record : {S : State} {r r′ : Rec} → r .snapshot ≤ S .p → S .p - r .snapshot ≤ S .Z → T (not (conflicts S r)) → done (at (S .p) r) ≡ done r′ → Refreshes S r r′

@@ -14,7 +14,7 @@ use Rattle.record.specs.declared.point.Scan.{Scan}
 use Rattle.rules.specs.Lists.{any}
 use Rattle.rules.specs.State.{Entry, State, fresh}
 use Rattle.rules.specs.Footprint.{reach, meets, writesOf}
-use Rattle.rules.specs.Verdict.{Verdict, committed, conflict, tooOld, noRoom, malformed, ahead, usedUp, hits, conflicts, apply, pointsOf, verdict, step, left, next}
+use Rattle.rules.specs.Verdict.{Verdict, committed, conflict, tooOld, noRoom, malformed, ahead, positionsUsedUp, hits, conflicts, apply, pointsOf, verdict, step, left, next}
 use Rattle.rules.specs.Log.{Log, after, wrote, commits, between, writtenIn}
 use Rattle.rules.proofs.Tests.{and-of, left-of, right-of, same, any-of, of-any}
 use Rattle.rules.proofs.Reach.{hits-of, of-hits}
@@ -63,7 +63,7 @@ holds-left ps h tooOld = holds-on h
 holds-left ps h noRoom = holds-on h
 holds-left ps h malformed = holds-on h
 holds-left ps h ahead = holds-on h
-holds-left ps h usedUp = rw append-nil h
+holds-left ps h positionsUsedUp = rw append-nil h
 
 -- a log
 pub holds-after : {S : State} {C : List Entry} → Holds S C → (ms : Log) → Holds (after S ms) (C ++ commits S ms)

@@ -8,6 +8,6 @@ pub mod Shape
 pub mod Lookup
 pub mod Refresh
 pub mod Demands
-pub mod Outcome
+pub mod ChainOutcome
 pub mod Table
-pub mod Sized
+pub mod EntryFits

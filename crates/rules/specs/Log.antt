@@ -12,7 +12,7 @@ use Rattle.record.specs.declared.point.Scan.{Scan}
 use Rattle.rules.specs.Lists.{if_then_else_, any}
 use Rattle.rules.specs.State.{Entry, State, fresh}
 use Rattle.rules.specs.Footprint.{writesOf}
-use Rattle.rules.specs.Verdict.{Verdict, committed, conflict, tooOld, noRoom, malformed, ahead, usedUp, hits, verdict, pointsOf, next}
+use Rattle.rules.specs.Verdict.{Verdict, committed, conflict, tooOld, noRoom, malformed, ahead, positionsUsedUp, hits, verdict, pointsOf, next}
 
 -- each record as it parses, none where it is malformed
 abbrev pub Log : Type 0
@@ -39,7 +39,7 @@ isWriter tooOld = false
 isWriter noRoom = false
 isWriter malformed = false
 isWriter ahead = false
-isWriter usedUp = false
+isWriter positionsUsedUp = false
 
 -- what the record at v wrote, by its verdict
 abbrev pub wrote : ℕ → List Point → Verdict → List Entry

@@ -9,7 +9,7 @@ use Rattle.record.specs.Answer as Names
 use Rattle.record.specs.declared.answer.Answer.{Answer}
 use Rattle.rules.specs.Lists.{if_then_else_}
 use Rattle.rules.specs.State.{State}
-use Rattle.rules.specs.Verdict.{Verdict, conflict, tooOld, malformed, ahead, answerOf, conflicts}
+use Rattle.rules.specs.Verdict.{Verdict, conflict, tooOld, malformed, ahead, verdictAnswer, conflicts}
 
 -- the same record with another snapshot
 abbrev pub at : ℕ → Rec → Rec
@@ -21,9 +21,9 @@ pub data Refreshed : Type 0 where
   refused : Verdict → Refreshed
 
 -- its number, by its one name
-abbrev pub answerTo : Refreshed → Answer
-answerTo (done r) = Names.committed
-answerTo (refused a) = answerOf a
+abbrev pub refreshedAnswer : Refreshed → Answer
+refreshedAnswer (done r) = Names.committed
+refreshedAnswer (refused a) = verdictAnswer a
 
 -- "On 0 the front of the output is the same record with snapshot p"; row 6 "does not stop a refresh"
 unfoldable pub refresh : State → Option Rec → Refreshed
@@ -35,11 +35,11 @@ refresh S (some r) =
     done (at (S .p) r)
 
 -- on with the refreshed record, or the refusal
-abbrev pub onward : Refreshed → (Rec → Refreshed) → Refreshed
-onward (done r) f = f r
-onward (refused a) f = refused a
+abbrev pub andThen : Refreshed → (Rec → Refreshed) → Refreshed
+andThen (done r) f = f r
+andThen (refused a) f = refused a
 
 -- a chain of refreshes: at one state after the other, as long as none refuses
 unfoldable pub chain : List State → Rec → Refreshed
 chain [] r = done r
-chain (S ∷ Ss) r = onward (refresh S (some r)) (chain Ss)
+chain (S ∷ Ss) r = andThen (refresh S (some r)) (chain Ss)

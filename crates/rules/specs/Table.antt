@@ -12,7 +12,7 @@ use Rattle.record.specs.declared.point.Point.{Point}
 use Rattle.record.specs.declared.point.Point.the-variants.{Read, Put, Delete}
 use Rattle.record.specs.declared.point.Scan.{Scan}
 use Rattle.rules.specs.State.{State, keyIn, fresh}
-use Rattle.rules.specs.Verdict.{verdict, answerOf, next}
+use Rattle.rules.specs.Verdict.{verdict, verdictAnswer, next}
 use Rattle.rules.specs.Log.{after}
 use Rattle.rules.specs.Tree.{looksOf}
 
@@ -83,7 +83,7 @@ lineOf x = record { v = x .v; answer = x .answer; looks = x .looks }
 unfoldable pub run : State → List (List ℕ) → List Line
 run S [] = []
 run S (b ∷ bs) =
-    record { v = S .p + 1; answer = answerOf (verdict S (parse b)); looks = looksOf S (parse b) } ∷ run (next S (parse b)) bs
+    record { v = S .p + 1; answer = verdictAnswer (verdict S (parse b)); looks = looksOf S (parse b) } ∷ run (next S (parse b)) bs
 
 -- the record of a line
 abbrev pub recOf : Row → Rec

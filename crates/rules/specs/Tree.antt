@@ -10,7 +10,7 @@ use Rattle.record.specs.declared.point.Scan.{Scan}
 use Rattle.rules.specs.Lists.{if_then_else_, keep}
 use Rattle.rules.specs.State.{Entry, State, isLive, lastPosition}
 use Rattle.rules.specs.Footprint.{reach, meets}
-use Rattle.rules.specs.Verdict.{Verdict, committed, conflict, tooOld, noRoom, malformed, ahead, usedUp, verdict}
+use Rattle.rules.specs.Verdict.{Verdict, committed, conflict, tooOld, noRoom, malformed, ahead, positionsUsedUp, verdict}
 
 -- "payloads are in leaves only"; node h low l r splits at bit h − 1 and covers low .. low + 2 ^ h − 1
 pub data Tree : Type 0 where
@@ -118,7 +118,7 @@ looksFor S m tooOld = 0
 looksFor S m noRoom = walkOf S m .looks
 looksFor S m malformed = 0
 looksFor S m ahead = 0
-looksFor S m usedUp = 0
+looksFor S m positionsUsedUp = 0
 
 -- the looks that a meld reports
 unfoldable pub looksOf : State → Option Rec → ℕ

@@ -23,17 +23,17 @@ pub data Verdict : Type 0 where
   noRoom : Verdict
   malformed : Verdict
   ahead : Verdict
-  usedUp : Verdict
+  positionsUsedUp : Verdict
 
 -- the number of each, by its one name
-abbrev pub answerOf : Verdict → Answer
-answerOf committed = Names.committed
-answerOf conflict = Names.conflict
-answerOf tooOld = Names.tooOld
-answerOf noRoom = Names.noRoom
-answerOf malformed = Names.malformed
-answerOf ahead = Names.ahead
-answerOf usedUp = Names.positionsUsedUp
+abbrev pub verdictAnswer : Verdict → Answer
+verdictAnswer committed = Names.committed
+verdictAnswer conflict = Names.conflict
+verdictAnswer tooOld = Names.tooOld
+verdictAnswer noRoom = Names.noRoom
+verdictAnswer malformed = Names.malformed
+verdictAnswer ahead = Names.ahead
+verdictAnswer positionsUsedUp = Names.positionsUsedUp
 
 -- ROW 1
 
@@ -98,7 +98,7 @@ formed S (some r) = judge S r
 
 -- row 6 before all
 unfoldable pub verdict : State → Option Rec → Verdict
-verdict S m = if leb lastPosition (S .p) then usedUp else formed S m
+verdict S m = if leb lastPosition (S .p) then positionsUsedUp else formed S m
 
 -- LEFT BEHIND
 
@@ -119,7 +119,7 @@ left S ps tooOld = step S (S .kept)
 left S ps noRoom = step S (S .kept)
 left S ps malformed = step S (S .kept)
 left S ps ahead = step S (S .kept)
-left S ps usedUp = S
+left S ps positionsUsedUp = S
 
 -- the state after a record
 unfoldable pub next : State → Option Rec → State

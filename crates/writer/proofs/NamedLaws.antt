@@ -13,7 +13,7 @@ use Rattle.record.specs.declared.point.Point.the-variants.{Read, Put, Delete}
 use Rattle.record.specs.declared.point.Scan.{Scan}
 use Rattle.record.specs.declared.checker.PointStep.the-variants as PointStep
 use Rattle.record.specs.declared.checker.ScanStep.the-variants as ScanStep
-use Rattle.record.specs.Record.{kindOf, keyOf, payloadOf, pointBytes, pointsBytes, scanBytes, scansBytes, Rising, Apart}
+use Rattle.record.specs.Record.{kindOf, keyOf, payloadOf, pointBytes, pointsBytes, scanBytes, scansBytes, PointsRise, Apart}
 use Rattle.record.specs.Parse.{Parsed, bad, took}
 use Rattle.record.specs.Reader.{lowOf, highOf}
 use Rattle.record.proofs.Cases.{by-case, no-point, no-scan, after-point, after-scan}
@@ -125,7 +125,7 @@ point-own (Put k x) low l = simp (le-ltb _ _ l)
 point-own (Delete k) low l = simp (le-ltb _ _ l)
 
 -- points that rise are named by their own lists
-pub points-own : (ps : List Point) (low at : ℕ) → Rising low ps
+pub points-own : (ps : List Point) (low at : ℕ) → PointsRise low ps
     → namedPoints low (map kindOf ps) (map keyOf ps) (map payloadOf ps) at ≡ took ps (at + length (pointsBytes ps))
 unfolding namedPoints
 points-own [] low at r = ap (took []) (omega arith)

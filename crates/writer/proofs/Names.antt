@@ -12,7 +12,7 @@ use lib.Dec.{leb}
 use borrow.Author.Tests.{le-leb, leb-true}
 use Rattle.record.specs.declared.point.Point.{Point}
 use Rattle.record.specs.declared.point.Scan.{Scan}
-use Rattle.record.specs.Record.{Rec, keyOf, payloadOf, pointsBytes, Rising, Apart, Valid}
+use Rattle.record.specs.Record.{Rec, keyOf, payloadOf, pointsBytes, PointsRise, Apart, Valid}
 use Rattle.record.specs.Reader.{Lists, lists, highOf}
 use Rattle.record.proofs.Cases.{by-case, and-split, no-some, took-or}
 use Rattle.writer.specs.Writer.{namedPoints, namedScans, recordOf, listsOf}
@@ -84,7 +84,7 @@ pub record Fitting (snapshot : ℕ) (l : Lists) : Type 0 where
   pub highs-fit : (i : ℕ) → getD (l .highs) i 0 < 2 ^ 32
 
 -- keys in order that fit rise
-rising-of : (ps : List Point) (low : ℕ) → Ordered low ps → ((i : ℕ) → getD (map keyOf ps) i 0 < 2 ^ 32) → ((i : ℕ) → getD (map payloadOf ps) i 0 < 2 ^ 64) → Rising low ps
+rising-of : (ps : List Point) (low : ℕ) → Ordered low ps → ((i : ℕ) → getD (map keyOf ps) i 0 < 2 ^ 32) → ((i : ℕ) → getD (map payloadOf ps) i 0 < 2 ^ 64) → PointsRise low ps
 rising-of [] low o f g = tt
 rising-of (p ∷ ps) low o f g = (o .0, f 0, g 0, rising-of ps (keyOf p + 1) (o .1) (λ i. f (suc i)) (λ i. g (suc i)))
 

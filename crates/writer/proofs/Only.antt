@@ -6,11 +6,11 @@ use mathlib.Core.List.{List}
 use Rattle.record.specs.Reader.{Lists}
 use Rattle.record.proofs.Only.{only}
 use Rattle.writer.specs.declared.Written.{Written}
-use Rattle.writer.specs.Writer.{recordOf, Outcome, outcome, writeOf}
+use Rattle.writer.specs.Writer.{recordOf, WriteOutcome, writeOutcome, writeOf}
 
 -- `write`: one answer and size, and one content of the output afterwards
 pub write-only : (snapshot : ℕ) (l : Lists) (output : List ℕ) (w z : Written) (left kept : List ℕ)
-    → outcome w left ≡ writeOf (recordOf snapshot l) output → outcome z kept ≡ writeOf (recordOf snapshot l) output → (w ≡ z) × (left ≡ kept)
+    → writeOutcome w left ≡ writeOf (recordOf snapshot l) output → writeOutcome z kept ≡ writeOf (recordOf snapshot l) output → (w ≡ z) × (left ≡ kept)
 write-only snapshot l output w z left kept h k =
-    let e : outcome w left ≡ outcome z kept = only h k in
-    (ap (λ (o : Outcome). o .written) e, ap (λ (o : Outcome). o .left) e)
+    let e : writeOutcome w left ≡ writeOutcome z kept = only h k in
+    (ap (λ (o : WriteOutcome). o .written) e, ap (λ (o : WriteOutcome). o .left) e)

@@ -20,7 +20,7 @@ use Rattle.record.specs.Reader as Reader
 use Rattle.record.proofs.Cases.{by-case}
 use Rattle.record.proofs.RoundTrip.{parse-bytesOf, bytesOf-parse}
 use Rattle.writer.specs.declared.Written.{Written}
-use Rattle.writer.specs.Writer.{recordOf, listsOf, Outcome, outcome, writeOf}
+use Rattle.writer.specs.Writer.{recordOf, listsOf, WriteOutcome, writeOutcome, writeOf}
 use Rattle.writer.proofs.Names.{recordOf-lists, lists-same}
 
 -- WHAT THE PROMISES GIVE FOR A RECORD
@@ -39,12 +39,12 @@ fronts q l =
     lists (take (q .points) (l .kinds)) (take (q .points) (l .keys)) (take (q .points) (l .payloads)) (take (q .scans) (l .lows)) (take (q .scans) (l .highs))
 
 -- lists with room are filled
-read-some : (r : Rec) (l : Lists) → roomy r l ≡ true → readOf (some r) l ≡ Reader.outcome (readingOf r) (filled r l)
+read-some : (r : Rec) (l : Lists) → roomy r l ≡ true → readOf (some r) l ≡ Reader.readOutcome (readingOf r) (filled r l)
 unfolding readOf
 read-some r l h = simp h
 
 -- an output with room is written
-write-some : (r : Rec) (output : List ℕ) → length (bytesOf r) ≤ length output → writeOf (some r) output ≡ outcome (writtenOf (bytesOf r)) (front (bytesOf r) output)
+write-some : (r : Rec) (output : List ℕ) → length (bytesOf r) ≤ length output → writeOf (some r) output ≡ writeOutcome (writtenOf (bytesOf r)) (front (bytesOf r) output)
 unfolding writeOf
 write-some r output h = simp (le-leb _ _ h)
 
@@ -66,37 +66,37 @@ fronts-filled r l =
 
 -- A valid record's lists are written to an output with room, and the bytes written are read into lists with room:
 -- the reader answers 0 with the record's snapshot and counts, and the record stands in the lists.
-pub write-read : (r : Rec) → Valid r → (output left : List ℕ) (w : Written) → outcome w left ≡ writeOf (recordOf (r .snapshot) (listsOf r)) output
-    → length (bytesOf r) ≤ length output → (before after : Lists) (q : Reading) → Reader.outcome q after ≡ readOf (parse (take (w .size) left)) before
+pub write-read : (r : Rec) → Valid r → (output left : List ℕ) (w : Written) → writeOutcome w left ≡ writeOf (recordOf (r .snapshot) (listsOf r)) output
+    → length (bytesOf r) ≤ length output → (before after : Lists) (q : Reading) → Reader.readOutcome q after ≡ readOf (parse (take (w .size) left)) before
     → roomy r before ≡ true → (q ≡ readingOf r) × (after ≡ filled r before)
 write-read r v output left w written room before after q reading roomy-is =
-    let e : outcome w left ≡ outcome (writtenOf (bytesOf r)) (front (bytesOf r) output) =
+    let e : writeOutcome w left ≡ writeOutcome (writtenOf (bytesOf r)) (front (bytesOf r) output) =
     written ∙ ap (λ (x : Option Rec). writeOf x output) (recordOf-lists r v) ∙ write-some r output room in
-    let bytes : take (w .size) left ≡ bytesOf r = ap (λ (o : Outcome). take (o .written .size) (o .left)) e ∙ take-front (length (bytesOf r)) (bytesOf r) output refl in
-    let f : Reader.outcome q after ≡ Reader.outcome (readingOf r) (filled r before) =
+    let bytes : take (w .size) left ≡ bytesOf r = ap (λ (o : WriteOutcome). take (o .written .size) (o .left)) e ∙ take-front (length (bytesOf r)) (bytesOf r) output refl in
+    let f : Reader.readOutcome q after ≡ Reader.readOutcome (readingOf r) (filled r before) =
     reading ∙ ap (λ (b : List ℕ). readOf (parse b) before) bytes ∙ ap (λ (x : Option Rec). readOf x before) (parse-bytesOf r v) ∙ read-some r before roomy-is in
-    (ap (λ (o : Reader.Outcome). o .reading) f, ap (λ (o : Reader.Outcome). o .left) f)
+    (ap (λ (o : Reader.ReadOutcome). o .reading) f, ap (λ (o : Reader.ReadOutcome). o .left) f)
 
 -- READ, THEN WRITE
 
 -- a reading that answers 0 has read a record
-read-inv : {P : Type 0} (x : Option Rec) (before after : Lists) (q : Reading) → Reader.outcome q after ≡ readOf x before → q .answer ≡ committed
+read-inv : {P : Type 0} (x : Option Rec) (before after : Lists) (q : Reading) → Reader.readOutcome q after ≡ readOf x before → q .answer ≡ committed
     → ((r : Rec) → x ≡ some r → q ≡ readingOf r → after ≡ filled r before → P) → P
 unfolding readOf
 read-inv none before after q e a k =
-    let z : _≡_ {A = ℕ} 0 4 = ap (λ (b : Answer). b .number) (sym a) ∙ ap (λ (o : Reader.Outcome). o .reading .answer .number) e in absurd (omega arith)
+    let z : _≡_ {A = ℕ} 0 4 = ap (λ (b : Answer). b .number) (sym a) ∙ ap (λ (o : Reader.ReadOutcome). o .reading .answer .number) e in absurd (omega arith)
 read-inv (some r) before after q e a k =
     by-case (roomy r before)
     (λ h.
-    let f : Reader.outcome q after ≡ Reader.outcome (readingOf r) (filled r before) = e ∙ simp h in
-    k r refl (ap (λ (o : Reader.Outcome). o .reading) f) (ap (λ (o : Reader.Outcome). o .left) f))
+    let f : Reader.readOutcome q after ≡ Reader.readOutcome (readingOf r) (filled r before) = e ∙ simp h in
+    k r refl (ap (λ (o : Reader.ReadOutcome). o .reading) f) (ap (λ (o : Reader.ReadOutcome). o .left) f))
     (λ h.
-    let z : _≡_ {A = ℕ} 0 8 = ap (λ (b : Answer). b .number) (sym a) ∙ ap (λ (o : Reader.Outcome). o .reading .answer .number) e ∙ simp h in absurd (omega arith))
+    let z : _≡_ {A = ℕ} 0 8 = ap (λ (b : Answer). b .number) (sym a) ∙ ap (λ (o : Reader.ReadOutcome). o .reading .answer .number) e ∙ simp h in absurd (omega arith))
 
 -- Bytes are read with answer 0, and what then stands at the fronts of the lists is written to an output with room:
 -- the writer answers 0 with the bytes' number, and the same bytes stand at the front of the output, the rest as before.
-pub read-write : (bytes : List ℕ) → Bytes bytes → (before after : Lists) (q : Reading) → Reader.outcome q after ≡ readOf (parse bytes) before → q .answer ≡ committed
-    → (output left : List ℕ) (w : Written) → outcome w left ≡ writeOf (recordOf (q .snapshot) (fronts q after)) output → length bytes ≤ length output
+pub read-write : (bytes : List ℕ) → Bytes bytes → (before after : Lists) (q : Reading) → Reader.readOutcome q after ≡ readOf (parse bytes) before → q .answer ≡ committed
+    → (output left : List ℕ) (w : Written) → writeOutcome w left ≡ writeOf (recordOf (q .snapshot) (fronts q after)) output → length bytes ≤ length output
     → (w ≡ writtenOf bytes) × (left ≡ front bytes output)
 read-write bytes y before after q reading answer output left w written room =
     read-inv (parse bytes) before after q reading answer λ r is q-is after-is.
@@ -104,7 +104,7 @@ read-write bytes y before after q reading answer output left w written room =
     let record-is : recordOf (q .snapshot) (fronts q after) ≡ some r =
     ap (λ (p : Reading). recordOf (p .snapshot) (fronts p after)) q-is ∙ ap (λ (l : Lists). recordOf (r .snapshot) (fronts (readingOf r) l)) after-is
     ∙ ap (recordOf (r .snapshot)) (fronts-filled r before) ∙ recordOf-lists r (both .0) in
-    let e : outcome w left ≡ outcome (writtenOf bytes) (front bytes output) =
+    let e : writeOutcome w left ≡ writeOutcome (writtenOf bytes) (front bytes output) =
     written ∙ ap (λ (x : Option Rec). writeOf x output) record-is ∙ write-some r output (omega (arith, ap length (both .1)))
-    ∙ ap (λ (b : List ℕ). outcome (writtenOf b) (front b output)) (sym (both .1)) in
-    (ap (λ (o : Outcome). o .written) e, ap (λ (o : Outcome). o .left) e)
+    ∙ ap (λ (b : List ℕ). writeOutcome (writtenOf b) (front b output)) (sym (both .1)) in
+    (ap (λ (o : WriteOutcome). o .written) e, ap (λ (o : WriteOutcome). o .left) e)

@@ -16,7 +16,7 @@ use Rattle.record.specs.Reader.{Lists, lists, front}
 use Rattle.record.proofs.ReadLaws.{sets-front}
 use Rattle.record.proofs.Sizes.{points-size-most, scans-bytes-size, body-size, whole-size}
 use Rattle.writer.specs.declared.Written.{Written}
-use Rattle.writer.specs.Writer.{recordOf, outcome, refused, writeOf, sizeEnd}
+use Rattle.writer.specs.Writer.{recordOf, writeOutcome, writeRefused, writeOf, sizeEnd}
 use Rattle.writer.specs.Stored.{headBytes, storedPoints, storedScans}
 use Rattle.writer.proofs.StoredBytes.{points-bytes-own, scans-bytes-own, stored-whole}
 use Rattle.writer.proofs.Names.{Named, named}
@@ -161,12 +161,12 @@ module _ (ks es xs ls hs : List ℕ) (size : ℕ) (e : End) (at-size : e ≡ End
 
 -- the size and the front of the output are the record's
 whole-outcome : (x : Option Rec) (r : Rec) (o q : List ℕ) (size : ℕ) → x ≡ some r → size ≡ length (bytesOf r) → length (bytesOf r) ≤ length o → q ≡ front (bytesOf r) o
-    → outcome (record { answer = committed; size = size }) q ≡ writeOf x o
+    → writeOutcome (record { answer = committed; size = size }) q ≡ writeOf x o
 unfolding writeOf
 whole-outcome x r o q size i n h f = simp (i, le-leb _ _ h, n, f)
 
 -- a short output stays as it was
-short-outcome : (x : Option Rec) (r : Rec) (o : List ℕ) (w : Written) → x ≡ some r → length o < length (bytesOf r) → w ≡ refused outputShort → outcome w o ≡ writeOf x o
+short-outcome : (x : Option Rec) (r : Rec) (o : List ℕ) (w : Written) → x ≡ some r → length o < length (bytesOf r) → w ≡ writeRefused outputShort → writeOutcome w o ≡ writeOf x o
 unfolding writeOf
 short-outcome x r o w i h f = simp (i, lt-leb _ _ h, f)
 
@@ -210,17 +210,17 @@ module _ (ks es xs ls hs : List ℕ) (size : ℕ) (e : End) (at-size : e ≡ End
         head-same n m s t a b c d i j k f = rw (i, j, k, f)
 
     -- the record is written
-    pub write-whole : outcome (record { answer = committed; size = size }) q ≡ writeOf (recordOf snapshot (lists ks es xs ls hs)) o
+    pub write-whole : writeOutcome (record { answer = committed; size = size }) q ≡ writeOf (recordOf snapshot (lists ks es xs ls hs)) o
     write-whole =
         let fits : length (bytesOf whole) ≤ length o = omega (arith, size-whole) in
         whole-outcome (recordOf snapshot (lists ks es xs ls hs)) whole o q size whole-is size-whole fits (bytes-stored ∙ sets-front (bytesOf whole) o fits)
 
   -- the output is too short
-  pub write-short : (o : List ℕ) (w : Written) → length o < size → w ≡ refused outputShort → outcome w o ≡ writeOf (recordOf snapshot (lists ks es xs ls hs)) o
+  pub write-short : (o : List ℕ) (w : Written) → length o < size → w ≡ writeRefused outputShort → writeOutcome w o ≡ writeOf (recordOf snapshot (lists ks es xs ls hs)) o
   write-short o w h i = short-outcome (recordOf snapshot (lists ks es xs ls hs)) whole o w whole-is (omega (arith, size-whole)) i
 
 -- lists that break a rule
 pub write-malformed : (ks es xs ls hs : List ℕ) (e : End) → e ≡ End.Bad → e ≡ sizeEnd (recordOf 0 (lists ks es xs ls hs))
-    → (snapshot : ℕ) (o : List ℕ) (w : Written) → w ≡ refused malformed → outcome w o ≡ writeOf (recordOf snapshot (lists ks es xs ls hs)) o
+    → (snapshot : ℕ) (o : List ℕ) (w : Written) → w ≡ writeRefused malformed → writeOutcome w o ≡ writeOf (recordOf snapshot (lists ks es xs ls hs)) o
 unfolding writeOf
 write-malformed ks es xs ls hs e b is snapshot o w i = simp (none-of (recordOf snapshot (lists ks es xs ls hs)) (sym b ∙ is ∙ any-snapshot 0 snapshot (lists ks es xs ls hs)), i)

@@ -65,25 +65,25 @@ listsOf r =
     lists (map kindOf (r .points)) (map keyOf (r .points)) (map payloadOf (r .points)) (map lowOf (r .scans)) (map highOf (r .scans))
 
 -- what a call gives back and what it leaves in the output
-pub record Outcome : Type 0 where
+pub record WriteOutcome : Type 0 where
   pub written : Written
   pub left : List ℕ
 
 -- the two together
-abbrev pub outcome : Written → List ℕ → Outcome
-outcome w l = record { written = w; left = l }
+abbrev pub writeOutcome : Written → List ℕ → WriteOutcome
+writeOutcome w l = record { written = w; left = l }
 
 -- "its size is given (0 on a refusal)"
-abbrev pub refused : Answer → Written
-refused a = record { answer = a; size = 0 }
+abbrev pub writeRefused : Answer → Written
+writeRefused a = record { answer = a; size = 0 }
 
--- "refused with 4, then short output with 8; both leave the output untouched. On 0 the record stands at the front of the output, the rest is as before"
-unfoldable pub writeOf : Option Rec → List ℕ → Outcome
-writeOf none output = outcome (refused malformed) output
+-- "writeRefused with 4, then short output with 8; both leave the output untouched. On 0 the record stands at the front of the output, the rest is as before"
+unfoldable pub writeOf : Option Rec → List ℕ → WriteOutcome
+writeOf none output = writeOutcome (writeRefused malformed) output
 writeOf (some r) output =
     cond (leb (length (bytesOf r)) (length output))
-    (outcome (record { answer = committed; size = length (bytesOf r) }) (front (bytesOf r) output))
-    (outcome (refused outputShort) output)
+    (writeOutcome (record { answer = committed; size = length (bytesOf r) }) (front (bytesOf r) output))
+    (writeOutcome (writeRefused outputShort) output)
 
 -- the size of the record named, if there is one: what the first pass over the lists finds
 abbrev pub sizeEnd : Option Rec → End

@@ -11,7 +11,7 @@ use store::put_points;
 use store::put_scans;
 ghost use mathlib.Core.Path.{_≡_};
 ghost use Rattle.record.specs.Reader.{lists};
-ghost use Rattle.writer.specs.Writer.{recordOf, outcome, refused, writeOf};
+ghost use Rattle.writer.specs.Writer.{recordOf, writeOutcome, writeRefused, writeOf};
 
 // What the writer gives back beside the output: the answer, and on 0 the record's size in bytes.
 pub struct Written {
@@ -21,7 +21,7 @@ pub struct Written {
 
 // A refusal: the size is 0.
 fn refusal(answer: Answer) -> Written
-    ensures { λ r. ⌜ r ≡ refused answer ⌝ }
+    ensures { λ r. ⌜ r ≡ writeRefused answer ⌝ }
 {
     Written { answer, size: 0 }
 }
@@ -37,7 +37,7 @@ pub fn write(
     highs: &[u32],
     output: &mut [u8],
 ) -> Written
-    ensures { λ r. ⌜ outcome r (now (output .exit))
+    ensures { λ r. ⌜ writeOutcome r (now (output .exit))
         ≡ writeOf (recordOf snapshot
         (lists (now (kinds .entry)) (now (keys .entry)) (now (payloads .entry)) (now (lows .entry)) (now (highs .entry))))
         (now (output .entry)) ⌝ }

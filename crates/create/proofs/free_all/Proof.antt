@@ -1,14 +1,14 @@
--- `create::free_all` meets its contract. The loop's invariant: the nodes passed are free (`Freed`). The measure is what is left of the nodes.
+-- `create::free_all` meets its contract. The loop's invariant: the nodes passed are free (`FreedBefore`). The measure is what is left of the nodes.
 -- Assumes nothing.
 use Prim.Native.Nat.{_≤_, _-_}
-use Rattle.create.specs.Steps.{Freed}
+use Rattle.create.specs.Steps.{FreedBefore}
 use Rattle.create.proofs.Laws.{freed-none, freed-more, freed-all}
 use native.Mathlib.Omega.{arith}
 use Rattle.create.proofs.free_all.Statement.{statement}
 use Rattle.create.proofs.free_all.Tie as tie
 
 abbrev Inv-loop : tie.InvT-loop
-Inv-loop pool₀ nodes i₀ pool i = (i ≤ nodes) × Freed nodes i pool₀ pool
+Inv-loop pool₀ nodes i₀ pool i = (i ≤ nodes) × FreedBefore nodes i pool₀ pool
 
 abbrev μ-loop : tie.MeasureT-loop
 μ-loop pool₀ nodes i₀ pool i = nodes - i

@@ -52,7 +52,7 @@ use Rattle.record.specs.Reader.{lists, lowOf, highOf}
 use Rattle.record.proofs.point.Scan as T
 use Rattle.record.proofs.point.Scan.Laws as T′
 use Rattle.writer.specs.declared.Written.{Written}
-use Rattle.writer.specs.Writer.{recordOf, outcome, writeOf}
+use Rattle.writer.specs.Writer.{recordOf, writeOutcome, writeOf}
 use Rattle.writer.proofs.Written as Wr
 use Rattle.writer.proofs.Written.Laws as Wr′
 use Rattle.pairs.proofs.write_pairs as pairs
@@ -209,7 +209,7 @@ module _ {M : Type 1} (𝓤 : URA M) (H : Heap 𝓤) (A : Atoms 𝓤) (W : Given
 
   -- what is promised: the pairs lent are the one scan
   abbrev Said : Written → List ℕ → Type 0
-  Said t zs = outcome t zs ≡ writeOf (recordOf sn (lists (now k) (now e) (now p) (map lowOf (c ∷ [])) (map highOf (c ∷ [])))) (now out)
+  Said t zs = writeOutcome t zs ≡ writeOf (recordOf sn (lists (now k) (now e) (now p) (map lowOf (c ∷ [])) (map highOf (c ∷ [])))) (now out)
 
   exits : (t : Written) (w : Val) (zs : List ℕ) → Said t zs → length zs ≡ length (now out)
       → ent 𝓤 (⋆ 𝓤 H A (‵ (Wr.the-row .own t (w ∷ [])) ∷ Tokens ∷ ‵ (finally u8 (out .name) zs) ∷ Kept-owned ∷ [])) (Post w)

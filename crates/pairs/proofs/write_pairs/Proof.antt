@@ -43,7 +43,7 @@ use Rattle.record.specs.declared.point.Scan.{Scan}
 use Rattle.record.specs.Reader.{lists, lowOf, highOf}
 use Rattle.record.proofs.point.Scan as T
 use Rattle.writer.specs.declared.Written.{Written}
-use Rattle.writer.specs.Writer.{recordOf, outcome, writeOf}
+use Rattle.writer.specs.Writer.{recordOf, writeOutcome, writeOf}
 use Rattle.writer.proofs.Written as Wr
 use Rattle.writer.proofs.Written.Laws as Wr′
 use Rattle.pairs.specs.declared.halves.Halves.{Halves}
@@ -193,13 +193,13 @@ module _ {M : Type 1} (𝓤 : URA M) (H : Heap 𝓤) (A : Atoms 𝓤) (W : Given
 
   -- what the core says, and what is promised
   abbrev Core-said : Halves → Written → List ℕ → Type 0
-  Core-said r t zs = outcome t zs ≡ writeHalves sn (now k) (now e) (now p) (length (now s)) r (now out)
+  Core-said r t zs = writeOutcome t zs ≡ writeHalves sn (now k) (now e) (now p) (length (now s)) r (now out)
 
   promised : (m : ℕ) (r : Halves) (t : Written) (zs : List ℕ) → m ≡ atMost8 (length (now s)) → r ≡ halvesOf m (now s) → Core-said r t zs
-      → outcome t zs ≡ writeOf (recordOf sn (lists (now k) (now e) (now p) (map lowOf (now s)) (map highOf (now s)))) (now out)
+      → writeOutcome t zs ≡ writeOf (recordOf sn (lists (now k) (now e) (now p) (map lowOf (now s)) (map highOf (now s)))) (now out)
   promised m r t zs is-m is-r said = said ∙ halves-write sn (now k) (now e) (now p) (now s) r (now out) (is-r ∙ ap (λ (i : ℕ). halvesOf i (now s)) is-m)
 
-  exits : (t : Written) (w : Val) (zs : List ℕ) → outcome t zs ≡ writeOf (recordOf sn (lists (now k) (now e) (now p) (map lowOf (now s)) (map highOf (now s)))) (now out) → length zs ≡ length (now out)
+  exits : (t : Written) (w : Val) (zs : List ℕ) → writeOutcome t zs ≡ writeOf (recordOf sn (lists (now k) (now e) (now p) (map lowOf (now s)) (map highOf (now s)))) (now out) → length zs ≡ length (now out)
       → ent 𝓤 (⋆ 𝓤 H A (‵ (Wr.the-row .own t (w ∷ [])) ∷ Core-tokens ∷ ‵ (finally u8 (out .name) zs) ∷ Kept-slices ∷ Pairs-token ∷ [])) (Post w)
   exits t w zs said l =
       qed W (‵ (Wr.the-row .own t (w ∷ [])) ∷ Core-tokens ∷ ‵ (finally u8 (out .name) zs) ∷ Kept-slices ∷ Pairs-token ∷ []) ∵

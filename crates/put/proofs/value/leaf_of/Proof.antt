@@ -6,7 +6,7 @@ use borrow.Author.Needs.{needs}
 use Rattle.rules.specs.State.{Fits}
 use Rattle.pool.specs.Plan.{leafNode}
 use Rattle.put.specs.declared.value.Value.{Value}
-use Rattle.put.specs.Values.{payloadOf}
+use Rattle.put.specs.Values.{payloadStored}
 use Rattle.put.proofs.value.leaf_of.Statement.{statement}
 use Rattle.put.proofs.value.leaf_of.Tie as tie
 
@@ -27,8 +27,8 @@ returns c =
     let s = c .before .before .before .before .args in
     let q = c .before .before .value .given .1 in
     record {
-      is = c .live .ensures ∙ sym (ap (λ (v : Value). leafNode (s .key) (s .position) (payloadOf v)) q);
-      fits = subst (λ (v : Value). Fits (payloadOf v)) (sym q) (omega arith);
+      is = c .live .ensures ∙ sym (ap (λ (v : Value). leafNode (s .key) (s .position) (payloadStored v)) q);
+      fits = subst (λ (v : Value). Fits (payloadStored v)) (sym q) (omega arith);
     }
 
 returns-2 : tie.Need-returns-2
@@ -36,8 +36,8 @@ returns-2 c =
     let s = c .before .before .before .args in
     let q = c .before .enum-told .given .1 in
     record {
-      is = c .tombstone .ensures ∙ sym (ap (λ (v : Value). leafNode (s .key) (s .position) (payloadOf v)) q);
-      fits = subst (λ (v : Value). Fits (payloadOf v)) (sym q) tt;
+      is = c .tombstone .ensures ∙ sym (ap (λ (v : Value). leafNode (s .key) (s .position) (payloadStored v)) q);
+      fits = subst (λ (v : Value). Fits (payloadStored v)) (sym q) tt;
     }
 
 pub leaf-of-spec : {M : Type 1} → statement M
