@@ -10,7 +10,8 @@ use native.Mathlib.Nat.{pow-suc, div-one, div-eq-of-lt, div-div-eq-div-mul, div-
 use lib.Dec.{eqb}
 use lib.Pow.{pow-add}
 use borrow.Author.Tests.{eq-eqb, ne-eqb, eqb-true, eqb-false}
-use Rattle.bits.specs.Bits.{pick, partFrom, partHeight}
+use Rattle.words.specs.Choice.{if_then_else_}
+use Rattle.bits.specs.Bits.{partFrom, partHeight}
 
 -- THE LEAST
 
@@ -20,7 +21,7 @@ unfolding partFrom
 from-most zero h x y = omega arith
 from-most (suc f) h x y = go (eqb (x / 2 ^ h) (y / 2 ^ h)) (from-most f (suc h) x y)
   where
-    go : (b : Bool) → partFrom f (suc h) x y ≤ suc h + f → pick b h (partFrom f (suc h) x y) ≤ h + suc f
+    go : (b : Bool) → partFrom f (suc h) x y ≤ suc h + f → (if b then h else partFrom f (suc h) x y) ≤ h + suc f
     go true l = omega arith
     go false l = omega arith
 
@@ -30,7 +31,7 @@ unfolding partFrom
 from-least zero h k x y l e = l
 from-least (suc f) h k x y l e = go (eqb (x / 2 ^ h) (y / 2 ^ h)) refl (λ n. from-least f (suc h) k x y n e)
   where
-    go : (b : Bool) → eqb (x / 2 ^ h) (y / 2 ^ h) ≡ b → (suc h ≤ k → partFrom f (suc h) x y ≤ k) → pick b h (partFrom f (suc h) x y) ≤ k
+    go : (b : Bool) → eqb (x / 2 ^ h) (y / 2 ^ h) ≡ b → (suc h ≤ k → partFrom f (suc h) x y ≤ k) → (if b then h else partFrom f (suc h) x y) ≤ k
     go true c g = l
     go false c g =
         let n : h ≢ k = λ q. eqb-false _ _ c (subst (λ (z : ℕ). x / 2 ^ z ≡ y / 2 ^ z) (sym q) e) in
@@ -45,7 +46,7 @@ from-agrees (suc f) h x y e =
     go (eqb (x / 2 ^ h) (y / 2 ^ h)) refl (from-agrees f (suc h) x y (rw s at e))
   where
     go : (b : Bool) → eqb (x / 2 ^ h) (y / 2 ^ h) ≡ b → x / 2 ^ partFrom f (suc h) x y ≡ y / 2 ^ partFrom f (suc h) x y
-        → x / 2 ^ pick b h (partFrom f (suc h) x y) ≡ y / 2 ^ pick b h (partFrom f (suc h) x y)
+        → x / 2 ^ (if b then h else partFrom f (suc h) x y) ≡ y / 2 ^ (if b then h else partFrom f (suc h) x y)
     go true c g = eqb-true _ _ c
     go false c g = g
 

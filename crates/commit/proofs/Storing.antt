@@ -10,7 +10,7 @@ use lib.Dec.{ltb}
 use Rattle.record.specs.declared.point.Point.{Point}
 use Rattle.record.specs.declared.point.Point.the-variants.{Read, Put, Delete}
 use Rattle.record.specs.Record.{kindOf, keyOf, payloadOf}
-use Rattle.rules.specs.Lists.{if_then_else_}
+use Rattle.words.specs.Choice.{if_then_else_}
 use Rattle.rules.specs.State.{Entry, State}
 use Rattle.rules.specs.Verdict.{store, storeAll}
 use Rattle.rules.specs.EntryFits.{EntryFits}

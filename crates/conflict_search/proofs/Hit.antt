@@ -8,7 +8,7 @@ use mathlib.Core.Bool.{Bool, true, false, not}
 use mathlib.Core.List.{List, [], _∷_, _++_, List·Memᴰ as Mem, List·Memᴰ·head as here, List·Memᴰ·tail as there, Memᴰ·append-left as in-left, Memᴰ·append-right as in-right, List·Memᴰ·append-cases as in-append}
 use lib.Dec.{T, T-not}
 use Rattle.record.specs.declared.point.Scan.{Scan}
-use Rattle.rules.specs.Lists.{if_then_else_}
+use Rattle.words.specs.Choice.{if_then_else_}
 use Rattle.rules.specs.State.{Entry}
 use Rattle.rules.specs.Verdict.{hits}
 use Rattle.rules.specs.Tree.{entries, walk}

@@ -19,7 +19,7 @@ use Rattle.nodes.specs.declared.header.Header.{Header}
 use Rattle.nodes.specs.Nodes.{nodeAt, putNode, headerAt, putHeader}
 use Rattle.nodes.specs.Laws.{length-node, bytes-node, node-put, node-apart, node-same, length-header, bytes-header, byte-header, header-put, node-header}
 use Rattle.record.specs.Answer.{committed, badLimits}
-use Rattle.rules.specs.Lists.{if_then_else_}
+use Rattle.words.specs.Choice.{if_then_else_}
 use Rattle.rules.specs.State.{Rising}
 use Rattle.rules.specs.Tree.{entries}
 use Rattle.rules.proofs.Trees.{tree-none}

@@ -9,7 +9,7 @@ use lib.ListN.{length, getD}
 use Rattle.words.specs.Word.{Bytes}
 use Rattle.nodes.specs.Nodes.{nodeAt}
 use Rattle.pool.specs.Plan.{freeNode, noNode}
-use Rattle.rules.specs.Lists.{if_then_else_}
+use Rattle.words.specs.Choice.{if_then_else_}
 
 -- what stands behind free node i of so many
 abbrev pub nextFree : ℕ → ℕ → ℕ

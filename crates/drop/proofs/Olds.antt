@@ -9,7 +9,8 @@ use mathlib.Core.List.{List, [], _∷_, List·Memᴰ as Mem, List·Memᴰ·head 
 use mathlib.Core.Option.{none}
 use lib.Dec.{T, ltb, leb, ltb→lt, leb→le, le→leb, not-T, T-not}
 use lib.ListN.{length, length-append}
-use Rattle.rules.specs.Lists.{if_then_else_, keep}
+use Rattle.words.specs.Choice.{if_then_else_}
+use Rattle.rules.specs.Lists.{keep}
 use Rattle.rules.specs.State.{Entry, isLive, lastPosition}
 use Rattle.rules.specs.Verdict.{young}
 use Rattle.rules.specs.Tree.{Tree, empty, leaf, node, entries, oldest}

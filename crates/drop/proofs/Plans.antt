@@ -7,7 +7,7 @@ use mathlib.Core.Bool.{Bool, true, false, not}
 use mathlib.Core.List.{List, [], _∷_, List·Memᴰ as Mem}
 use mathlib.Core.Option.{Option, none, some}
 use lib.ListN.{length, length-append}
-use Rattle.rules.specs.Lists.{if_then_else_}
+use Rattle.words.specs.Choice.{if_then_else_}
 use Rattle.rules.specs.Tree.{Tree, empty, join, oldest}
 use Rattle.rules.proofs.Prune.{prune}
 use Rattle.pool.specs.Plan.{Plan, leaf, node, treeIn, number, numbers}

@@ -11,7 +11,7 @@ use lib.Pow.{pow-pos}
 use borrow.Author.Tests.{eq-eqb, ne-eqb, not-true, not-false}
 use Rattle.nodes.specs.declared.node.Node.{Node}
 use Rattle.nodes.specs.Nodes.{nodeAt}
-use Rattle.rules.specs.Lists.{if_then_else_}
+use Rattle.words.specs.Choice.{if_then_else_}
 use Rattle.fit.specs.Check.{leafOk, innerOk, coverMiddle, coverEnd, both, bit, leavesAt}
 use Rattle.fit.proofs.Tests.{leaf-facts, is-false}
 use Rattle.fit.proofs.InnerTests.{Own, Inner, inner-true, inner-facts}

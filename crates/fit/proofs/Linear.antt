@@ -11,7 +11,7 @@ use lib.Dec.{leb, eqb}
 use lib.Pow.{pow-pos}
 use borrow.Author.Tests.{leb-true, le-leb, eqb-true, eqb-false}
 use Rattle.nodes.specs.Nodes.{nodeAt}
-use Rattle.rules.specs.Lists.{if_then_else_}
+use Rattle.words.specs.Choice.{if_then_else_}
 use Rattle.fit.specs.Check.{leafOk, innerOk, coverMiddle, coverEnd, both, bit, leavesAt}
 use Rattle.fit.specs.Visits.{visits, depth}
 use Rattle.fit.proofs.Tests.{and-both, leaf-facts}

@@ -15,7 +15,7 @@ use Rattle.nodes.specs.declared.node.Node.{Node}
 use Rattle.nodes.specs.declared.header.Header.{Header}
 use Rattle.nodes.specs.Nodes.{nodeAt, headerAt}
 use Rattle.nodes.specs.Laws.{header-fits}
-use Rattle.rules.specs.Lists.{if_then_else_}
+use Rattle.words.specs.Choice.{if_then_else_}
 use Rattle.rules.specs.State.{Entry, Rising}
 use Rattle.rules.specs.Tree.{Tree, treeOf, entries, newest}
 use Rattle.rules.proofs.Tests.{le-or-lt}

@@ -9,7 +9,7 @@ use lib.Dec.{ltb, leb, eqb}
 use borrow.Author.Tests.{ltb-true, eqb-true, eqb-false}
 use Rattle.nodes.specs.declared.header.Header.{Header}
 use Rattle.nodes.specs.Nodes.{nodeAt, headerAt}
-use Rattle.rules.specs.Lists.{if_then_else_}
+use Rattle.words.specs.Choice.{if_then_else_}
 use Rattle.fit.specs.Whole.{Decides, freeOk, freeCount, leavesFrom, treeOk, Head}
 use Rattle.fit.specs.Visits.{visits, depth, chainVisits, treeVisits, visitsOf}
 use Rattle.fit.proofs.Tests.{differ}

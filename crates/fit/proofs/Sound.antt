@@ -15,7 +15,7 @@ use Rattle.words.specs.Word.{Bytes}
 use Rattle.nodes.specs.declared.node.Node.{Node}
 use Rattle.nodes.specs.Nodes.{nodeAt}
 use Rattle.nodes.specs.Laws.{node-fits}
-use Rattle.rules.specs.Lists.{if_then_else_}
+use Rattle.words.specs.Choice.{if_then_else_}
 use Rattle.rules.specs.State.{Entry, Fits, isLive}
 use Rattle.rules.specs.Tree.{entries, newest, oldest}
 use Rattle.pool.specs.Plan.{Plan, leaf, node, treeIn, number, numbers, noNode, leafNode, rootNode}

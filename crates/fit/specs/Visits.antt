@@ -7,7 +7,7 @@ use mathlib.Core.List.{List}
 use lib.Dec.{ltb, leb, eqb}
 use Rattle.nodes.specs.declared.header.Header.{Header}
 use Rattle.nodes.specs.Nodes.{nodeAt}
-use Rattle.rules.specs.Lists.{if_then_else_}
+use Rattle.words.specs.Choice.{if_then_else_}
 use Rattle.fit.specs.Check.{innerOk, coverMiddle, coverEnd, leavesAt}
 use Rattle.fit.specs.Whole.{freeOk, freeCount, treeOk}
 

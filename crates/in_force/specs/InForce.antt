@@ -2,10 +2,11 @@
 -- Assumes nothing: these are definitions.
 use Prim.Native.Nat.{ℕ, _+_}
 use mathlib.Core.Path.{_≡_}
-use mathlib.Core.Bool.{Bool, true, false, cond}
+use mathlib.Core.Bool.{Bool, true, false}
 use mathlib.Core.List.{List, []}
 use lib.Dec.{eqb}
 use denote.Ref.{RefT, now, ptr}
+use Rattle.words.specs.Choice.{if_then_else_}
 use Rattle.record.specs.declared.answer.Answer.{Answer}
 use Rattle.record.specs.Answer.{committed, ahead}
 use Rattle.log.specs.declared.found.Cut.{Cut}
@@ -27,7 +28,10 @@ ifCut (Record next) = refreshed
 -- "hand back the original record after answer 5; after 0, the record at the front of the refreshed buffer if the log rule finds one there;
 -- in every other case the empty part at the original's start"
 unfoldable pub sourceOf : Answer → List ℕ → Source
-sourceOf a buffer = cond (eqb (a .number) (ahead .number)) original (cond (eqb (a .number) (committed .number)) (ifCut (cutAt buffer 0)) nothing)
+sourceOf a buffer =
+    if eqb (a .number) (ahead .number) then original else
+    if eqb (a .number) (committed .number) then ifCut (cutAt buffer 0) else
+    nothing
 
 -- the bytes handed back
 abbrev pub bytesFrom : Source → List ℕ → List ℕ → List ℕ

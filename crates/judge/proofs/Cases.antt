@@ -10,7 +10,8 @@ use Rattle.record.specs.declared.point.Scan.{Scan}
 use Rattle.record.specs.Answer.{committed, conflict, tooOld, ahead}
 use Rattle.nodes.specs.declared.header.Header.{Header}
 use Rattle.nodes.specs.Nodes.{headerAt}
-use Rattle.rules.specs.Lists.{if_then_else_, any}
+use Rattle.words.specs.Choice.{if_then_else_}
+use Rattle.rules.specs.Lists.{any}
 use Rattle.rules.specs.Verdict.{hits}
 use Rattle.rules.specs.Tree.{Tree, treeOf, walk}
 use Rattle.rules.proofs.Search.{walk-found}

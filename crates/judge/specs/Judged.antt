@@ -6,7 +6,8 @@ use lib.Dec.{ltb}
 use Rattle.record.specs.declared.answer.Answer.{Answer}
 use Rattle.record.specs.declared.point.Scan.{Scan}
 use Rattle.record.specs.Answer.{committed, conflict, tooOld, ahead}
-use Rattle.rules.specs.Lists.{if_then_else_, any}
+use Rattle.words.specs.Choice.{if_then_else_}
+use Rattle.rules.specs.Lists.{any}
 use Rattle.rules.specs.State.{State}
 use Rattle.rules.specs.Verdict.{hits}
 use Rattle.rules.specs.Tree.{treeOf, walk}

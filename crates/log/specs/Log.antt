@@ -2,12 +2,13 @@
 -- Assumes nothing: these are definitions.
 use Prim.Native.Nat.{ℕ, _+_, _-_}
 use mathlib.Core.Path.{_≡_}
-use mathlib.Core.Bool.{Bool, cond, not, _&&_, _||_}
+use mathlib.Core.Bool.{Bool, not, _&&_, _||_}
 use mathlib.Core.Option.{Option, none, some}
 use mathlib.Core.List.{List, []}
 use lib.ListN.{length, take, drop}
 use lib.Dec.{ltb, eqb}
 use denote.Ref.{RefT, now, ptr}
+use Rattle.words.specs.Choice.{if_then_else_}
 use Rattle.words.specs.Word.{word}
 use Rattle.record.specs.declared.answer.Answer.{Answer}
 use Rattle.record.specs.Answer.{brokenLog}
@@ -42,7 +43,10 @@ brokenAt log place =
 
 -- "exactly at the end, it says "end""; then broken; "otherwise it hands out that part and its place moves past it"
 unfoldable pub cutAt : List ℕ → ℕ → Cut
-cutAt log place = cond (endsAt log place) End (cond (brokenAt log place) Broken (Record (pastAt log place)))
+cutAt log place =
+    if endsAt log place then End else
+    if brokenAt log place then Broken else
+    Record (pastAt log place)
 
 -- the paper's number for each case: a broken log is 10; "end" and a record handed out have no number
 abbrev pub cutAnswer : Cut → Option Answer
@@ -53,7 +57,7 @@ cutAnswer (Record next) = none
 -- what `cut` promises of its answer: the case that stands at the place, and the paper's number for it
 pub record CutIs (log : List ℕ) (place : ℕ) (r : Cut) : Type 0 where
   pub case : r ≡ cutAt log place
-  pub number : cutAnswer r ≡ cond (not (endsAt log place) && brokenAt log place) (some brokenLog) none
+  pub number : cutAnswer r ≡ (if not (endsAt log place) && brokenAt log place then some brokenLog else none)
 
 -- the part handed out: "with "end" or 10 .. empty", otherwise the bytes from the place to the place past the record
 abbrev pub partOf : Cut → List ℕ → ℕ → List ℕ

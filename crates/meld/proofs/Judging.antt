@@ -14,7 +14,8 @@ use Rattle.record.specs.declared.answer.Answer.{Answer}
 use Rattle.record.specs.declared.point.Point.{Point}
 use Rattle.record.specs.Answer as Names
 use Rattle.record.specs.Record.{Rec, Valid}
-use Rattle.rules.specs.Lists.{if_then_else_, any, keep, distinct}
+use Rattle.words.specs.Choice.{if_then_else_}
+use Rattle.rules.specs.Lists.{any, keep, distinct}
 use Rattle.rules.specs.State.{Entry, State, Lawful, lastPosition}
 use Rattle.rules.specs.Footprint.{reach, writesOf}
 use Rattle.rules.specs.Verdict.{Verdict, committed, conflict, tooOld, noRoom, malformed, ahead, positionsUsedUp, verdictAnswer, hits, conflicts, young, whole, count, judge, verdict}

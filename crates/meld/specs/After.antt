@@ -7,7 +7,7 @@ use lib.ListN.{length}
 use lib.Dec.{ltb}
 use Rattle.record.specs.declared.point.Point.{Point}
 use Rattle.record.specs.Record.{Rec}
-use Rattle.rules.specs.Lists.{if_then_else_}
+use Rattle.words.specs.Choice.{if_then_else_}
 use Rattle.rules.specs.Footprint.{writesOf}
 use Rattle.rules.specs.Verdict.{Verdict, committed, conflict, tooOld, noRoom, malformed, ahead, positionsUsedUp, whole, verdict, pointsOf}
 use Rattle.pool.specs.Image.{Arrangement, stateOf}

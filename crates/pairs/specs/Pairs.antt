@@ -2,10 +2,10 @@
 -- cites these: what the entry promises is said by the writer's own definitions, of the pairs themselves.
 -- Assumes nothing: these are definitions.
 use Prim.Native.Nat.{ℕ, zero, suc}
-use mathlib.Core.Bool.{cond}
 use mathlib.Core.List.{List, [], _∷_, map}
 use lib.Dec.{ltb}
 use lib.ListN.{take, set, replicate}
+use Rattle.words.specs.Choice.{if_then_else_}
 use Rattle.record.specs.declared.point.Scan.{Scan}
 use Rattle.record.specs.Answer.{malformed}
 use Rattle.record.specs.Reader.{lists, lowOf, highOf}
@@ -17,7 +17,7 @@ noScan = record { low = 0; high = 0 }
 
 -- the count itself, and 8 where it is more
 abbrev pub atMost8 : ℕ → ℕ
-atMost8 count = cond (ltb 8 count) 8 count
+atMost8 count = if ltb 8 count then 8 else count
 
 -- the first n of a list of numbers, and 0 behind its last
 unfoldable pub padded : ℕ → List ℕ → List ℕ
@@ -38,5 +38,5 @@ halvesOf count cs = record { lows = padded 8 (map lowOf (take count cs)); highs 
 -- what is written with the first count of the lows and highs: nothing of more than 8
 abbrev pub writeHalves : ℕ → List ℕ → List ℕ → List ℕ → ℕ → Halves → List ℕ → WriteOutcome
 writeHalves snapshot kinds keys payloads count s output =
-    cond (ltb 8 count) (writeOutcome (writeRefused malformed) output)
-    (writeOf (recordOf snapshot (lists kinds keys payloads (take count (s .lows)) (take count (s .highs)))) output)
+    if ltb 8 count then writeOutcome (writeRefused malformed) output else
+    writeOf (recordOf snapshot (lists kinds keys payloads (take count (s .lows)) (take count (s .highs)))) output

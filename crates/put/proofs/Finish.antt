@@ -11,7 +11,7 @@ use Rattle.words.specs.Word.{Bytes}
 use Rattle.nodes.specs.declared.header.Header.{Header}
 use Rattle.nodes.specs.Nodes.{base, headerAt, putHeader}
 use Rattle.nodes.specs.Laws.{NodeFits, HeaderFits, header-put, length-header, bytes-header, byte-header, node-header}
-use Rattle.rules.specs.Lists.{if_then_else_}
+use Rattle.words.specs.Choice.{if_then_else_}
 use Rattle.rules.specs.State.{Entry, Fits, lastPosition}
 use Rattle.pool.specs.Plan.{Plan, leaf, node, numbers, leafNode}
 use Rattle.pool.specs.Image.{Arrangement, Arranged, Image, Holds, HoldsTree, HoldsFree, AllBelow, firstOf, headerOf, stateOf, rootOr, numbersOr}

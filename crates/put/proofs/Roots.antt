@@ -11,7 +11,7 @@ use Rattle.bits.specs.Bits.{partHeight}
 use Rattle.bits.proofs.Part.{part-most}
 use Rattle.nodes.specs.declared.node.Node.{Node}
 use Rattle.nodes.specs.Laws.{NodeFits}
-use Rattle.rules.specs.Lists.{if_then_else_}
+use Rattle.words.specs.Choice.{if_then_else_}
 use Rattle.rules.specs.State.{Entry, isLive, lastPosition}
 use Rattle.rules.specs.Tree as Trees
 use Rattle.rules.specs.Tree.{newest, oldest}

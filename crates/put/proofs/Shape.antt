@@ -12,7 +12,7 @@ use lib.Pow.{pow-pos}
 use borrow.Author.Tests.{ltb-false}
 use Rattle.bits.specs.Bits.{partHeight}
 use Rattle.bits.proofs.Part.{part-is}
-use Rattle.rules.specs.Lists.{if_then_else_}
+use Rattle.words.specs.Choice.{if_then_else_}
 use Rattle.rules.specs.State.{Entry}
 use Rattle.rules.specs.Tree as Trees
 use Rattle.rules.specs.Tree.{Tree, empty}

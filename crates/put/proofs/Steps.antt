@@ -12,7 +12,7 @@ use borrow.Author.Tests.{eq-eqb}
 use Rattle.bits.specs.Bits.{partHeight}
 use Rattle.nodes.specs.Nodes.{base, nodeAt, putNode}
 use Rattle.nodes.specs.Laws.{NodeFits, node-fits, node-put, node-apart, bytes-node, length-node}
-use Rattle.rules.specs.Lists.{if_then_else_}
+use Rattle.words.specs.Choice.{if_then_else_}
 use Rattle.rules.specs.State.{Entry}
 use Rattle.pool.specs.Plan.{Plan, leaf, node, number, numbers, rootNode}
 use Rattle.pool.specs.Image.{Holds}

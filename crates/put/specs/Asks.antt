@@ -8,7 +8,7 @@ use lib.ListN.{length}
 use Rattle.nodes.specs.declared.header.Header.{Header}
 use Rattle.nodes.specs.declared.node.Node.{Node}
 use Rattle.nodes.specs.Nodes.{nodeAt}
-use Rattle.rules.specs.Lists.{if_then_else_}
+use Rattle.words.specs.Choice.{if_then_else_}
 use Rattle.rules.specs.State.{Fits}
 use Rattle.rules.specs.Verdict.{store}
 use Rattle.pool.specs.Plan.{noNode, leafNode}

@@ -6,7 +6,7 @@ use lib.Dec.{ltb}
 use Rattle.bits.specs.Bits.{partHeight}
 use Rattle.nodes.specs.declared.node.Node.{Node}
 use Rattle.nodes.specs.Nodes.{nodeAt, putNode}
-use Rattle.rules.specs.Lists.{if_then_else_}
+use Rattle.words.specs.Choice.{if_then_else_}
 use Rattle.pool.specs.Plan.{innerNode}
 
 -- the inner node above a leaf, which is node b, and node i, which holds n

@@ -2,11 +2,12 @@
 -- exactly if r keeps the rules and the bytes are r's.
 -- Assumes nothing: these are definitions.
 use Prim.Native.Nat.{ℕ, zero, suc, _+_}
-use mathlib.Core.Bool.{Bool, true, false, cond, _&&_}
+use mathlib.Core.Bool.{Bool, true, false, _&&_}
 use mathlib.Core.Option.{Option, none, some}
 use mathlib.Core.List.{List, [], _∷_}
 use lib.ListN.{length, getD}
 use lib.Dec.{leb, ltb, eqb}
+use Rattle.words.specs.Choice.{if_then_else_}
 use Rattle.words.specs.Word.{word}
 use Rattle.record.specs.declared.answer.Answer.{Answer}
 use Rattle.record.specs.declared.point.Point.{Point}
@@ -24,25 +25,25 @@ use Rattle.record.specs.Record.{Rec, keyOf, maxPoints, maxScans, version
 -- the point of the kind given whose bytes stand at a place
 abbrev pub pointAs : ℕ → List ℕ → ℕ → PointStep
 pointAs kind bs at =
-    cond (eqb kind 1) (PointStep.Next (Read (word 4 bs (at + 1))) 5)
-    (cond (eqb kind 3) (PointStep.Next (Delete (word 4 bs (at + 1))) 5)
-    (cond (eqb kind 2)
-    (cond (ltb (length bs) (at + 13)) PointStep.Bad (PointStep.Next (Put (word 4 bs (at + 1)) (word 8 bs (at + 5))) 13))
-    PointStep.Bad))
+    if eqb kind 1 then PointStep.Next (Read (word 4 bs (at + 1))) 5 else
+    if eqb kind 3 then PointStep.Next (Delete (word 4 bs (at + 1))) 5 else
+    if eqb kind 2 then (if ltb (length bs) (at + 13) then PointStep.Bad else PointStep.Next (Put (word 4 bs (at + 1)) (word 8 bs (at + 5))) 13) else
+    PointStep.Bad
 
 -- the point at a place, with its size, if its kind is known, it lies within the bytes and its key is at least low
 unfoldable pub stepPoint : ℕ → List ℕ → ℕ → PointStep
 stepPoint low bs at =
-    cond (ltb (length bs) (at + 5)) PointStep.Bad
-    (cond (ltb (word 4 bs (at + 1)) low) PointStep.Bad (pointAs (getD bs at 0) bs at))
+    if ltb (length bs) (at + 5) then PointStep.Bad else
+    if ltb (word 4 bs (at + 1)) low then PointStep.Bad else
+    pointAs (getD bs at 0) bs at
 
 -- the scan at a place, if it lies within the bytes, its low is at least the floor and at most its high
 unfoldable pub stepScan : ℕ → List ℕ → ℕ → ScanStep
 stepScan floor bs at =
-    cond (ltb (length bs) (at + 8)) ScanStep.Bad
-    (cond (ltb (word 4 bs at) floor) ScanStep.Bad
-    (cond (ltb (word 4 bs (at + 4)) (word 4 bs at)) ScanStep.Bad
-    (ScanStep.Next (record { low = word 4 bs at; high = word 4 bs (at + 4) }))))
+    if ltb (length bs) (at + 8) then ScanStep.Bad else
+    if ltb (word 4 bs at) floor then ScanStep.Bad else
+    if ltb (word 4 bs (at + 4)) (word 4 bs at) then ScanStep.Bad else
+    ScanStep.Next (record { low = word 4 bs at; high = word 4 bs (at + 4) })
 
 -- what a run of points or scans comes to: a list of them and the place past them, or a refusal
 pub data Parsed (A : Type 0) : Type 0 where
@@ -110,11 +111,11 @@ onTook (took xs at) f = f xs at
 -- the record that the bytes are, if they are well formed
 unfoldable pub parse : List ℕ → Option Rec
 parse bs =
-    cond (headOk bs)
-    (onTook (parsePoints (pointCount bs) 0 bs 9) λ ps at.
+    if headOk bs
+    then (onTook (parsePoints (pointCount bs) 0 bs 9) λ ps at.
     onTook (parseScans (scanCount bs) 0 bs at) λ cs end.
-    cond (eqb end (length bs)) (some (record { snapshot = word 4 bs 3; points = ps; scans = cs })) none)
-    none
+    if eqb end (length bs) then some (record { snapshot = word 4 bs 3; points = ps; scans = cs }) else none)
+    else none
 
 -- 0 for a well-formed record, else 4
 abbrev pub checkOf : Option Rec → Answer

@@ -1,11 +1,12 @@
 -- What the reader answers, and what it leaves in the five lists that it is lent.
 -- Assumes nothing: these are definitions.
 use Prim.Native.Nat.{ℕ}
-use mathlib.Core.Bool.{Bool, cond, _&&_}
+use mathlib.Core.Bool.{Bool, _&&_}
 use mathlib.Core.Option.{Option, none, some}
 use mathlib.Core.List.{List, _++_, map}
 use lib.ListN.{length, drop}
 use lib.Dec.{leb}
+use Rattle.words.specs.Choice.{if_then_else_}
 use Rattle.record.specs.declared.answer.Answer.{Answer}
 use Rattle.record.specs.declared.point.Scan.{Scan}
 use Rattle.record.specs.declared.reader.Reading.{Reading}
@@ -62,6 +63,6 @@ filled r l =
 unfoldable pub readOf : Option Rec → Lists → ReadOutcome
 readOf none l = readOutcome (readRefused malformed) l
 readOf (some r) l =
-    cond (roomy r l)
-    (readOutcome (record { answer = committed; snapshot = r .snapshot; points = length (r .points); scans = length (r .scans) }) (filled r l))
-    (readOutcome (readRefused outputShort) l)
+    if roomy r l
+    then readOutcome (record { answer = committed; snapshot = r .snapshot; points = length (r .points); scans = length (r .scans) }) (filled r l)
+    else readOutcome (readRefused outputShort) l

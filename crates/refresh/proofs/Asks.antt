@@ -18,7 +18,7 @@ use Rattle.record.specs.Record.{Rec, Valid, keyOf}
 use Rattle.record.specs.Parse.{parse}
 use Rattle.record.specs.Reader.{Lists, ReadOutcome, readOutcome, lists, front, roomy, filled, readOf, lowOf, highOf}
 use Rattle.record.proofs.RoundTrip.{bytesOf-parse}
-use Rattle.rules.specs.Lists.{if_then_else_}
+use Rattle.words.specs.Choice.{if_then_else_}
 use Rattle.rules.specs.State.{State}
 use Rattle.rules.specs.Footprint.{reach}
 use Rattle.rules.specs.Tree.{treeOf, walk}

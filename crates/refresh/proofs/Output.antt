@@ -18,7 +18,7 @@ use Rattle.record.specs.Record.{Rec, bytesOf, Valid}
 use Rattle.record.specs.Parse.{parse}
 use Rattle.record.specs.Reader.{front}
 use Rattle.record.proofs.RoundTrip.{parse-bytesOf, bytesOf-parse}
-use Rattle.rules.specs.Lists.{if_then_else_}
+use Rattle.words.specs.Choice.{if_then_else_}
 use Rattle.rules.specs.State.{State, lastPosition}
 use Rattle.rules.specs.Refresh.{Refreshed, done, refused, refreshedAnswer, at, refresh}
 use Rattle.rules.proofs.Refreshing.{Refreshes, refresh-exactly, refreshed-valid}

@@ -18,7 +18,7 @@ use Rattle.record.specs.Reader.{front}
 use Rattle.record.proofs.RoundTrip.{bytesOf-parse, valid-size}
 use Rattle.nodes.specs.declared.header.Header.{Header}
 use Rattle.nodes.specs.Nodes.{headerAt}
-use Rattle.rules.specs.Lists.{if_then_else_}
+use Rattle.words.specs.Choice.{if_then_else_}
 use Rattle.rules.specs.State.{State}
 use Rattle.rules.specs.Verdict.{conflict, tooOld, ahead, conflicts}
 use Rattle.rules.specs.Refresh.{Refreshed, done, refused, refreshedAnswer, at, refresh}

@@ -11,7 +11,7 @@ use Rattle.record.specs.Answer.{committed, unfitPool, outputShort}
 use Rattle.record.specs.Record.{Rec, bytesOf}
 use Rattle.record.specs.Parse.{parse}
 use Rattle.record.specs.Reader.{front}
-use Rattle.rules.specs.Lists.{if_then_else_}
+use Rattle.words.specs.Choice.{if_then_else_}
 use Rattle.rules.specs.State.{State}
 use Rattle.rules.specs.Verdict.{verdictAnswer}
 use Rattle.rules.specs.Refresh.{Refreshed, done, refused, refresh}

@@ -14,7 +14,8 @@ use Rattle.record.specs.declared.point.Point.{Point}
 use Rattle.record.specs.declared.point.Point.the-variants.{Read, Put, Delete}
 use Rattle.record.specs.Record.{keyOf}
 use Rattle.record.specs.Record.{PointsRise}
-use Rattle.rules.specs.Lists.{if_then_else_, keep}
+use Rattle.words.specs.Choice.{if_then_else_}
+use Rattle.rules.specs.Lists.{keep}
 use Rattle.rules.specs.State.{Entry, State, Lawful, Rising, end, link, isLive}
 use Rattle.rules.specs.Footprint.{writesOf}
 use Rattle.rules.specs.Lookup.{find}

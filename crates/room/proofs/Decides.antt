@@ -13,7 +13,8 @@ use Rattle.record.specs.declared.point.Point.the-variants.{Read, Put, Delete}
 use Rattle.record.specs.Record.{Rec, Valid, kindOf, keyOf}
 use Rattle.nodes.specs.declared.header.Header.{Header}
 use Rattle.nodes.specs.Nodes.{headerAt}
-use Rattle.rules.specs.Lists.{keep, if_then_else_}
+use Rattle.words.specs.Choice.{if_then_else_}
+use Rattle.rules.specs.Lists.{keep}
 use Rattle.rules.specs.State.{Entry, State, Lawful}
 use Rattle.rules.specs.Verdict.{whole, count}
 use Rattle.pool.specs.Image.{Arrangement, Image, Fit, stateOf}

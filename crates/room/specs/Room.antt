@@ -7,7 +7,7 @@ use lib.ListN.{length}
 use lib.Dec.{ltb}
 use Rattle.record.specs.declared.point.Point.{Point}
 use Rattle.record.specs.Record.{Rec, Valid, kindOf, keyOf}
-use Rattle.rules.specs.Lists.{if_then_else_}
+use Rattle.words.specs.Choice.{if_then_else_}
 use Rattle.rules.specs.State.{State, lastPosition}
 use Rattle.rules.specs.Verdict.{whole, count}
 use Rattle.pool.specs.Image.{Arrangement, Image, stateOf}

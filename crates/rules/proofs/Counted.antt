@@ -10,7 +10,8 @@ use mathlib.Core.List.{List, [], _∷_, _++_, map, List·Memᴰ as Mem, List·Me
 use lib.Dec.{T, eqb, eqb→eq, T-not}
 use lib.ListN.{length, length-map}
 use Rattle.record.specs.Record.{Rec, Valid}
-use Rattle.rules.specs.Lists.{if_then_else_, any, keep, distinct}
+use Rattle.words.specs.Choice.{if_then_else_}
+use Rattle.rules.specs.Lists.{any, keep, distinct}
 use Rattle.rules.specs.State.{Entry, State, keyIn, Rising, end, link, Lawful}
 use Rattle.rules.specs.Footprint.{writesOf}
 use Rattle.rules.specs.Verdict.{store, storeAll, young, whole, count}

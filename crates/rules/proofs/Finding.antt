@@ -7,7 +7,7 @@ use mathlib.Core.Logic.{_⊎_, inl, inr, ⊎-elim}
 use mathlib.Core.List.{List, [], _∷_, _++_, List·Memᴰ as Mem, List·Memᴰ·head as here, List·Memᴰ·tail as there}
 use mathlib.Core.Option.{Option, none, some}
 use lib.Dec.{ltb, eqb, eqb→eq, ltb→lt, nltb→le, T-not}
-use Rattle.rules.specs.Lists.{if_then_else_}
+use Rattle.words.specs.Choice.{if_then_else_}
 use Rattle.rules.specs.State.{Entry, Rising, end, link}
 use Rattle.rules.specs.Verdict.{store, storeAll}
 use Rattle.rules.specs.Lookup.{find}

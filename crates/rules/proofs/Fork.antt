@@ -7,7 +7,7 @@ use mathlib.Core.Path.{_≡_, sym, ap, _∙_}
 use mathlib.Core.Logic.{⊎-elim}
 use lib.Dec.{ltb}
 use lib.Pow.{shr-shr}
-use Rattle.rules.specs.Lists.{if_then_else_}
+use Rattle.words.specs.Choice.{if_then_else_}
 use Rattle.rules.specs.State.{Entry}
 use Rattle.rules.specs.Tree.{Tree, leaf, node}
 use Rattle.rules.proofs.Tests.{le-or-lt, yes-lt, no-lt}

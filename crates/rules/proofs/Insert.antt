@@ -8,7 +8,7 @@ use mathlib.Core.Bool.{_&&_}
 use mathlib.Core.List.{List, [], _∷_, _++_, List·Memᴰ as Mem, List·Memᴰ·head as here, List·Memᴰ·tail as there}
 use lib.Pow.{pow-pos}
 use lib.Dec.{T, ltb, leb, eqb, eqb→eq, ltb→lt, nltb→le, lt→ltb, le→leb, leb→le, T-not, not-T}
-use Rattle.rules.specs.Lists.{if_then_else_}
+use Rattle.words.specs.Choice.{if_then_else_}
 use Rattle.rules.specs.State.{Entry, Rising}
 use Rattle.rules.specs.Verdict.{store, storeAll}
 use Rattle.rules.specs.Tree.{Tree, empty, leaf, node, entries, first, past, treeOf}

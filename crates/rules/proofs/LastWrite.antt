@@ -10,7 +10,8 @@ use mathlib.Core.Option.{Option, none, some}
 use lib.Dec.{T, ltb, eqb, eqb→eq}
 use lib.ListN.{length}
 use Rattle.record.specs.declared.point.Point.{Point}
-use Rattle.rules.specs.Lists.{if_then_else_, keep}
+use Rattle.words.specs.Choice.{if_then_else_}
+use Rattle.rules.specs.Lists.{keep}
 use Rattle.rules.specs.State.{Entry, State, fresh, isLive, Rising, end, link}
 use Rattle.rules.specs.Footprint.{writesOf}
 use Rattle.rules.specs.Verdict.{Verdict, committed, conflict, tooOld, noRoom, malformed, ahead, positionsUsedUp, storeAll, young, whole, apply, pointsOf, verdict, left, next}

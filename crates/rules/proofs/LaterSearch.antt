@@ -11,7 +11,8 @@ use mathlib.Core.Option.{some}
 use lib.Dec.{T, ltb, ltb→lt, lt→ltb, T-not}
 use Rattle.record.specs.Record.{Rec}
 use Rattle.record.specs.declared.point.Scan.{Scan}
-use Rattle.rules.specs.Lists.{if_then_else_, keep}
+use Rattle.words.specs.Choice.{if_then_else_}
+use Rattle.rules.specs.Lists.{keep}
 use Rattle.rules.specs.State.{Entry, State}
 use Rattle.rules.specs.Footprint.{reach, meets}
 use Rattle.rules.specs.Verdict.{hits}

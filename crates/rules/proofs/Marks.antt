@@ -10,7 +10,7 @@ use lib.Dec.{T, ltb, leb, ltb→lt, lt→ltb, le→leb, leb→le, not-T}
 use lib.ListN.{length, length-append, length-map}
 use Rattle.record.specs.Record.{Rec, keyOf, Apart}
 use Rattle.record.specs.declared.point.Scan.{Scan}
-use Rattle.rules.specs.Lists.{if_then_else_}
+use Rattle.words.specs.Choice.{if_then_else_}
 use Rattle.rules.specs.Footprint.{named, reach, meets}
 use Rattle.rules.proofs.Tests.{if-ind, is-true, is-false, le-or-lt, and-of, right-of, mem-map, of-map}
 use Rattle.rules.proofs.Reach.{meets-of, of-meets}

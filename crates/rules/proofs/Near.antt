@@ -6,7 +6,7 @@ use mathlib.Core.Path.{_≡_, refl}
 use mathlib.Core.Option.{Option, some}
 use lib.Dec.{ltb, leb, le→leb}
 use Rattle.record.specs.Record.{Rec}
-use Rattle.rules.specs.Lists.{if_then_else_}
+use Rattle.words.specs.Choice.{if_then_else_}
 use Rattle.rules.specs.State.{State, lastPosition}
 use Rattle.rules.specs.Footprint.{reach}
 use Rattle.rules.specs.Verdict.{Verdict, committed, conflict, noRoom, positionsUsedUp, conflicts, count, judge, verdict}

@@ -10,7 +10,8 @@ use mathlib.Core.Option.{Option, none, some}
 use lib.Dec.{ltb, eqb, ltb→lt, nltb→le}
 use lib.ListN.{length}
 use Rattle.record.specs.Record.{Rec, Valid}
-use Rattle.rules.specs.Lists.{if_then_else_, keep}
+use Rattle.words.specs.Choice.{if_then_else_}
+use Rattle.rules.specs.Lists.{keep}
 use Rattle.rules.specs.State.{Entry, State, Rising, end, link, Lawful}
 use Rattle.rules.specs.Footprint.{writesOf}
 use Rattle.rules.specs.Verdict.{store, storeAll, young, whole, count}

@@ -7,7 +7,8 @@ use mathlib.Core.Logic.{⊎-elim}
 use mathlib.Core.Bool.{Bool, not}
 use mathlib.Core.List.{List}
 use lib.Dec.{T, ltb, lt→ltb}
-use Rattle.rules.specs.Lists.{if_then_else_, keep}
+use Rattle.words.specs.Choice.{if_then_else_}
+use Rattle.rules.specs.Lists.{keep}
 use Rattle.rules.specs.State.{Entry, Rising, isLive}
 use Rattle.rules.specs.Verdict.{young}
 use Rattle.rules.specs.Tree.{Tree, empty, leaf, node, entries, join, treeOf, oldest}

@@ -8,7 +8,7 @@ use mathlib.Core.Bool.{Bool, true, false, not}
 use mathlib.Core.Option.{Option, none, some}
 use lib.Dec.{T, ltb, nltb→le}
 use Rattle.record.specs.Record.{Rec, Valid}
-use Rattle.rules.specs.Lists.{if_then_else_}
+use Rattle.words.specs.Choice.{if_then_else_}
 use Rattle.rules.specs.State.{State, lastPosition}
 use Rattle.rules.specs.Verdict.{Verdict, committed, conflict, tooOld, noRoom, ahead, conflicts, count, judge, verdict}
 use Rattle.rules.specs.Refresh.{at, Refreshed, done, refused, refreshedAnswer, refresh}

@@ -7,7 +7,8 @@ use mathlib.Core.Logic.{_⊎_, inl, inr, ⊎-elim}
 use mathlib.Core.Bool.{Bool, true, false, not, _&&_, _||_}
 use mathlib.Core.List.{List, [], _∷_, _++_, map, List·Memᴰ as Mem, List·Memᴰ·head as here, List·Memᴰ·tail as there}
 use lib.Dec.{T, ltb, leb, eqb, eqb→eq, eqb-refl, ltb→lt, lt→ltb, leb→le, nleb→lt, not-T}
-use Rattle.rules.specs.Lists.{if_then_else_, any, keep}
+use Rattle.words.specs.Choice.{if_then_else_}
+use Rattle.rules.specs.Lists.{any, keep}
 
 -- TESTS
 

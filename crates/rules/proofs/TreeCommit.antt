@@ -8,7 +8,7 @@ use mathlib.Core.List.{List, List·Memᴰ as Mem}
 use lib.Dec.{ltb}
 use lib.ListN.{length}
 use Rattle.record.specs.Record.{Rec, Valid}
-use Rattle.rules.specs.Lists.{if_then_else_}
+use Rattle.words.specs.Choice.{if_then_else_}
 use Rattle.rules.specs.State.{Entry, State, Lawful}
 use Rattle.rules.specs.Footprint.{writesOf}
 use Rattle.rules.specs.Verdict.{young, whole, apply}

@@ -9,7 +9,7 @@ use lib.Dec.{eqb}
 use Rattle.record.specs.Record.{Rec, keyOf}
 use Rattle.record.specs.declared.point.Point.{Point}
 use Rattle.record.specs.declared.point.Scan.{Scan}
-use Rattle.rules.specs.Lists.{if_then_else_}
+use Rattle.words.specs.Choice.{if_then_else_}
 use Rattle.rules.specs.State.{Entry, fresh, lastPosition}
 use Rattle.rules.specs.Verdict.{count}
 use Rattle.rules.specs.Log.{Log, after, commits}

@@ -1,15 +1,10 @@
--- The choice by a test, and three words on lists, that the rules are said with.
+-- Three words on lists that the rules are said with.
 -- Assumes nothing: these are definitions.
 use Prim.Native.Nat.{ℕ}
 use mathlib.Core.Bool.{Bool, true, false, _||_}
 use mathlib.Core.List.{List, [], _∷_}
 use lib.Dec.{eqb}
-
--- the first if the test passes, else the second
-infixr 5 if_then_else_
-abbrev pub if_then_else_ : {A : Type 0} → Bool → A → A → A
-if_then_else_ true a b = a
-if_then_else_ false a b = b
+use Rattle.words.specs.Choice.{if_then_else_}
 
 -- one of them passes the test
 abbrev pub any : {A : Type 0} → (A → Bool) → List A → Bool

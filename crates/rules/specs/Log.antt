@@ -9,7 +9,8 @@ use lib.ListN.{take}
 use Rattle.record.specs.Record.{Rec, Valid}
 use Rattle.record.specs.declared.point.Point.{Point}
 use Rattle.record.specs.declared.point.Scan.{Scan}
-use Rattle.rules.specs.Lists.{if_then_else_, any}
+use Rattle.words.specs.Choice.{if_then_else_}
+use Rattle.rules.specs.Lists.{any}
 use Rattle.rules.specs.State.{Entry, State, fresh}
 use Rattle.rules.specs.Footprint.{writesOf}
 use Rattle.rules.specs.Verdict.{Verdict, committed, conflict, tooOld, noRoom, malformed, ahead, positionsUsedUp, hits, verdict, pointsOf, next}

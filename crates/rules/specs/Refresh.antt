@@ -7,7 +7,7 @@ use lib.Dec.{ltb}
 use Rattle.record.specs.Record.{Rec}
 use Rattle.record.specs.Answer as Names
 use Rattle.record.specs.declared.answer.Answer.{Answer}
-use Rattle.rules.specs.Lists.{if_then_else_}
+use Rattle.words.specs.Choice.{if_then_else_}
 use Rattle.rules.specs.State.{State}
 use Rattle.rules.specs.Verdict.{Verdict, conflict, tooOld, malformed, ahead, verdictAnswer, conflicts}
 

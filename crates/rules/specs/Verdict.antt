@@ -11,7 +11,8 @@ use Rattle.record.specs.Answer as Names
 use Rattle.record.specs.declared.answer.Answer.{Answer}
 use Rattle.record.specs.declared.point.Point.{Point}
 use Rattle.record.specs.declared.point.Scan.{Scan}
-use Rattle.rules.specs.Lists.{if_then_else_, any, keep}
+use Rattle.words.specs.Choice.{if_then_else_}
+use Rattle.rules.specs.Lists.{any, keep}
 use Rattle.rules.specs.State.{Entry, State, isLive, lastPosition}
 use Rattle.rules.specs.Footprint.{reach, meets, writesOf}
 

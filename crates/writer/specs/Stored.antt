@@ -1,9 +1,9 @@
 -- What the second pass over the lists stores, byte by byte. No public promise cites it: proofs show that it is the record's bytes.
 -- Assumes nothing: these are definitions.
 use Prim.Native.Nat.{ℕ}
-use mathlib.Core.Bool.{cond}
 use mathlib.Core.List.{List, [], _∷_, _++_}
 use lib.Dec.{eqb}
+use Rattle.words.specs.Choice.{if_then_else_}
 use Rattle.words.specs.Word.{bigEndian}
 
 -- the nine bytes before the points
@@ -12,7 +12,7 @@ headBytes size snapshot points scans = bigEndian 2 size ++ (1 ∷ (bigEndian 4 s
 
 -- a kind, a key and, for a put, a payload
 unfoldable pub storedPoint : ℕ → ℕ → ℕ → List ℕ
-storedPoint kind key payload = kind ∷ (bigEndian 4 key ++ cond (eqb kind 2) (bigEndian 8 payload) [])
+storedPoint kind key payload = kind ∷ (bigEndian 4 key ++ (if eqb kind 2 then bigEndian 8 payload else []))
 
 -- point by point
 unfoldable pub storedPoints : List ℕ → List ℕ → List ℕ → List ℕ

@@ -1,11 +1,12 @@
 -- Document 01, "The record": which record lent lists name, and what the writer answers and leaves in its output.
 -- Assumes nothing: these are definitions.
 use Prim.Native.Nat.{ℕ, _+_}
-use mathlib.Core.Bool.{cond, _&&_}
+use mathlib.Core.Bool.{_&&_}
 use mathlib.Core.Option.{Option, none, some}
 use mathlib.Core.List.{List, [], _∷_, map}
 use lib.ListN.{length}
 use lib.Dec.{leb, ltb, eqb}
+use Rattle.words.specs.Choice.{if_then_else_}
 use Rattle.record.specs.declared.answer.Answer.{Answer}
 use Rattle.record.specs.declared.point.Point.{Point}
 use Rattle.record.specs.declared.point.Point.the-variants.{Read, Put, Delete}
@@ -25,16 +26,18 @@ use Rattle.writer.specs.declared.Written.{Written}
 -- the point that a kind, a key and a payload name, with its size, if its kind is known, the payload of a read or delete is 0 and the key is at least low
 unfoldable pub pointNamed : ℕ → ℕ → ℕ → ℕ → PointStep
 pointNamed low kind key payload =
-    cond (ltb key low) PointStep.Bad
-    (cond (eqb kind 2) (PointStep.Next (Put key payload) 13)
-    (cond (eqb payload 0)
-    (cond (eqb kind 1) (PointStep.Next (Read key) 5) (cond (eqb kind 3) (PointStep.Next (Delete key) 5) PointStep.Bad))
-    PointStep.Bad))
+    if ltb key low then PointStep.Bad else
+    if eqb kind 2 then PointStep.Next (Put key payload) 13 else
+    if eqb payload 0
+    then (if eqb kind 1 then PointStep.Next (Read key) 5 else if eqb kind 3 then PointStep.Next (Delete key) 5 else PointStep.Bad)
+    else PointStep.Bad
 
 -- the scan from low to high, if low is at least the floor and at most high
 unfoldable pub scanNamed : ℕ → ℕ → ℕ → ScanStep
 scanNamed floor low high =
-    cond (ltb low floor) ScanStep.Bad (cond (ltb high low) ScanStep.Bad (ScanStep.Next (record { low = low; high = high })))
+    if ltb low floor then ScanStep.Bad else
+    if ltb high low then ScanStep.Bad else
+    ScanStep.Next (record { low = low; high = high })
 
 -- the points that kinds, keys and payloads name, three lists of equal length, each key above the one before; and the place past their bytes
 unfoldable pub namedPoints : ℕ → List ℕ → List ℕ → List ℕ → ℕ → Parsed Point
@@ -57,7 +60,7 @@ unfoldable pub recordOf : ℕ → Lists → Option Rec
 recordOf snapshot l =
     onTook (namedPoints 0 (l .kinds) (l .keys) (l .payloads) 9) λ ps at.
     onTook (namedScans 0 (l .lows) (l .highs) at) λ cs end.
-    cond (leb (length ps) maxPoints && leb (length cs) maxScans) (some (record { snapshot = snapshot; points = ps; scans = cs })) none
+    if leb (length ps) maxPoints && leb (length cs) maxScans then some (record { snapshot = snapshot; points = ps; scans = cs }) else none
 
 -- the lists that name a record
 abbrev pub listsOf : Rec → Lists
@@ -81,9 +84,9 @@ writeRefused a = record { answer = a; size = 0 }
 unfoldable pub writeOf : Option Rec → List ℕ → WriteOutcome
 writeOf none output = writeOutcome (writeRefused malformed) output
 writeOf (some r) output =
-    cond (leb (length (bytesOf r)) (length output))
-    (writeOutcome (record { answer = committed; size = length (bytesOf r) }) (front (bytesOf r) output))
-    (writeOutcome (writeRefused outputShort) output)
+    if leb (length (bytesOf r)) (length output)
+    then writeOutcome (record { answer = committed; size = length (bytesOf r) }) (front (bytesOf r) output)
+    else writeOutcome (writeRefused outputShort) output
 
 -- the size of the record named, if there is one: what the first pass over the lists finds
 abbrev pub sizeEnd : Option Rec → End
