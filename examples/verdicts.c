@@ -1,5 +1,5 @@
-/* The program of document 01 in C, over the library: N and Z, four bytes each, big-endian, and a log on standard input; a line for each record with
-   position, answer and looks, then `end` or `10`; only `9` for bad limits, N above 1,000 or fewer than eight bytes. */
+/* The program of R41 (docs/RULES.md) in C, over the library: N and Z, four bytes each, big-endian, and a log on standard input; a line for each
+   record with position, answer and looks, then `end` or `10`; only `9` for bad limits, N above 1,000 or fewer than eight bytes. */
 #include <stdio.h>
 #include <stdlib.h>
 

@@ -30,11 +30,13 @@ fn index_page(cases: &[Case]) -> String {
     let mut page = String::from(
         "# Conformance\n\n\
          Each pair of files has one idea: `NAME.input` is what the program reads (N and Z, four\n\
-         bytes each, big-endian, then a log), `NAME.expected` the lines it has to print.\n\
-         [How to check your port](CHECK.md) says how to use them, `check PROGRAM` does it.\n\
+         bytes each, big-endian, then a log), `NAME.expected` the lines it has to print. The rules\n\
+         are in [docs/RULES.md](../docs/RULES.md); its last table says which files try which rule.\n\
+         [How to check your port](CHECK.md) says how to use the files, `check PROGRAM` does it.\n\
          [WORDS.md](WORDS.md) has every input in hex and in words.\n\n\
-         All files but `CHECK.md` and `check` are made by `cases conformance ../conformance`\n\
-         in `host/` (see `docs/HOST.md`); do not edit them by hand.\n\n\
+         Written by hand: `CHECK.md`, `check` and `.gitattributes`. All others, that is each\n\
+         `.input` and `.expected`, `WORDS.md` and this page, are made by\n\
+         `cases conformance ../conformance` in `host/` (see `docs/HOST.md`); change them there.\n\n\
          | file | catches |\n|---|---|\n",
     );
     for (index, case) in cases.iter().enumerate() {

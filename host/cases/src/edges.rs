@@ -1,7 +1,7 @@
 //! Further cases for the gate: mechanical ones, and ones too long to read.
 
-use reference::document::{self, record, scanning};
 use reference::program::join;
+use reference::table::{self, record, scanning};
 use reference::{Point, Record};
 
 use crate::Case;
@@ -33,7 +33,7 @@ fn cuts() -> Vec<Case> {
         record(1, &[Point::read(30)]),
         scanning(1, &[Point::delete(10)], &[(11, 19)]),
     ];
-    let log = document::log(&three);
+    let log = table::log(&three);
     let cut = |length: usize| {
         let input = join(3, 4, &log[..length]);
         case(
@@ -47,7 +47,7 @@ fn cuts() -> Vec<Case> {
 
 /// The first 0 to 8 bytes of an input.
 fn short_inputs() -> Vec<Case> {
-    let input = document::input();
+    let input = table::input();
     let short = |length: usize| {
         let bytes = input[..length].to_vec();
         case(
@@ -76,10 +76,7 @@ fn bad_limits() -> Vec<Case> {
 /// length fields in a log for each bit, since they put the walk out of step.
 fn flips() -> Vec<Case> {
     let first = record(0, &[Point::put(10, 100)]).to_bytes();
-    let strings: [(&str, &[u8]); 2] = [
-        ("read", &document::READ_30),
-        ("put", &document::PUT_30_SCAN),
-    ];
+    let strings: [(&str, &[u8]); 2] = [("read", &table::READ_30), ("put", &table::PUT_30_SCAN)];
     let mut cases = Vec::new();
     for (name, string) in strings {
         let flipped = |bit: usize| {
@@ -112,7 +109,7 @@ fn longest_zone(z: u32) -> Case {
     records.extend((1..z).map(|p| record(p, &[])));
     records.extend([record(0, &[Point::read(7)]), record(1, &[Point::read(7)])]);
     records.extend([record(1, &[Point::read(7)]), record(3, &[Point::delete(7)])]);
-    let input = join(1, z, &document::log(&records));
+    let input = join(1, z, &table::log(&records));
     case(
         format!("longest-zone-{z}"),
         "The edge of a zone of thousands.",
@@ -139,7 +136,7 @@ fn all_keys(z: u32) -> Case {
     records.push(record(p + 1, &[Point::read(1), Point::read(u32::MAX)]));
     records.push(record(0, &[Point::read(keys[999])]));
     records.push(record(p + 5, &[Point::put(1, 1)]));
-    let input = join(1_000, z, &document::log(&records));
+    let input = join(1_000, z, &table::log(&records));
     case(format!("all-keys-{z}"), "The largest pool.", input)
 }
 
@@ -163,7 +160,7 @@ fn most_looks() -> Case {
     let between = |place: usize| (keys[place] + 1, keys[place + 1] - 1);
     let gaps: Vec<(u32, u32)> = (0..8).map(|index| between(index * 119 + 7)).collect();
     records.push(scanning(0, &reads, &gaps));
-    let input = join(1_000, 100, &document::log(&records));
+    let input = join(1_000, 100, &table::log(&records));
     case(
         "most-looks".to_string(),
         "The looks of full records in a full tree.",
@@ -173,7 +170,7 @@ fn most_looks() -> Case {
 
 /// The eleven rows, then a broken end.
 fn torn_rows() -> Case {
-    let input = [document::input(), vec![3, 0x88, 1]].concat();
+    let input = [table::input(), vec![3, 0x88, 1]].concat();
     case(
         "document-torn".to_string(),
         "The eleven rows before a broken end.",

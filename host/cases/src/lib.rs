@@ -1,4 +1,4 @@
-//! The cases of document 01's edges: `ideas` has the small ones of the
+//! The cases of the rules' edges: `ideas` has the small ones of the
 //! conformance set, one idea each; `edges` has more for the gate; `sequence`
 //! is the format in which the gate takes them all as one input.
 #![forbid(unsafe_code)]

@@ -8,7 +8,7 @@ use std::path::Path;
 use std::process::ExitCode;
 
 use cases::{all, conformance, sequence};
-use reference::document;
+use reference::table;
 
 const USAGE: &str = "\
 usage: cases write > FILE       the cases of the gate, as one sequence
@@ -25,7 +25,7 @@ fn main() -> ExitCode {
         ["expect"] => expect(),
         ["list"] => print(list().as_bytes()),
         ["conformance", folder] => write_files(Path::new(folder)),
-        ["document"] => print(&document::input()),
+        ["document"] => print(&table::input()),
         _ => {
             eprintln!("{USAGE}");
             return ExitCode::from(2);

@@ -5,8 +5,8 @@ use std::fs;
 use std::path::PathBuf;
 
 use cases::conformance;
-use reference::document;
 use reference::program::lines;
+use reference::table;
 
 /// A folder beside `host`.
 fn folder(name: &str) -> PathBuf {
@@ -40,6 +40,6 @@ fn there_are_no_other_conformance_files() {
 #[test]
 fn the_sample_is_the_log_to_check_by() {
     let found = fs::read(folder("samples").join("document.log")).unwrap();
-    assert_eq!(found, document::input());
+    assert_eq!(found, table::input());
     assert!(lines(&found).ends_with("11 0 1\nend\n"));
 }

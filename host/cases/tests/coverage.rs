@@ -1,4 +1,4 @@
-//! The cases have in them what document 01 names, and catch what they say.
+//! The cases have in them what docs/RULES.md names, and catch what they say.
 
 use std::collections::BTreeSet;
 

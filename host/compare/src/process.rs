@@ -13,7 +13,7 @@ const PATIENCE: Duration = Duration::from_secs(30);
 /// What the program prints for the input. An error says in words why there is
 /// no such thing: it does not start, is ended by a signal or takes too long.
 /// The exit status of a program that ends by itself is not looked at, since
-/// document 01 gives none.
+/// R41 gives none.
 pub fn output(program: &Path, input: &[u8]) -> Result<String, String> {
     let child = Command::new(program)
         .stdin(Stdio::piped())

@@ -1,4 +1,4 @@
-//! The logs from seeds have every edge of document 01 in them, often.
+//! The logs from seeds have every edge of docs/RULES.md in them, often.
 
 use std::collections::BTreeMap;
 

@@ -1,4 +1,4 @@
-//! What document 01 says of every log, seen on logs from seeds.
+//! What docs/RULES.md says of every log, seen on logs from seeds.
 
 use compare::generate;
 use reference::log::parts;

@@ -1,6 +1,6 @@
 //! The answers, each number with its one name.
 
-/// An answer; its number is the one of document 01's table.
+/// An answer; its number is the one of R3 (docs/RULES.md).
 #[derive(Clone, Copy, Debug, PartialEq, Eq, PartialOrd, Ord, Hash)]
 #[repr(u8)]
 pub enum Answer {
@@ -44,7 +44,7 @@ impl Answer {
         Answer::BrokenLog,
     ];
 
-    /// The number of document 01's table.
+    /// Its number in R3.
     pub const fn number(self) -> u8 {
         self as u8
     }

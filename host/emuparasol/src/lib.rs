@@ -34,7 +34,7 @@ pub const fn pool_bytes(n: u32) -> usize {
 
 /// The answer of a call; the archive is proved to give no other number.
 fn answered(number: u8) -> Answer {
-    Answer::from_number(number).expect("an answer of document 01")
+    Answer::from_number(number).expect("an answer of R3")
 }
 
 /// Makes the lent bytes a new pool for n keys and zones of z positions: committed,

@@ -7,7 +7,7 @@ use crate::{between, without_comments};
 pub struct Answer {
     /// Words in capitals, joined by `_`.
     pub name: String,
-    /// The number of document 01's table.
+    /// Its number in R3.
     pub number: u8,
 }
 

@@ -1,12 +1,12 @@
-//! The answers of document 01, "The verdict": a number and a fixed name each.
+//! The answers of R3: a number and a fixed name each.
 
-/// An answer; its number is the one of document 01's table.
+/// An answer; its number is the one of R3.
 #[derive(Clone, Copy, Debug, PartialEq, Eq, PartialOrd, Ord)]
 #[repr(u8)]
 pub enum Answer {
     /// The record's writes are stored.
     Committed = 0,
-    /// A key it names or scans was written in its zone.
+    /// A key it names or scans was written since its snapshot.
     Conflict = 1,
     /// Its zone is longer than Z.
     TooOld = 2,
@@ -44,12 +44,12 @@ impl Answer {
         Answer::BrokenLog,
     ];
 
-    /// The number of document 01's table.
+    /// Its number in R3.
     pub const fn number(self) -> u8 {
         self as u8
     }
 
-    /// The name of document 01's table.
+    /// Its name in R3.
     pub const fn name(self) -> &'static str {
         match self {
             Answer::Committed => "committed",

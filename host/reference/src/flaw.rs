@@ -1,4 +1,4 @@
-//! What can be wrong with a record: document 01, "The record".
+//! What can be wrong with a record: R4 to R7, R9.
 
 use std::fmt;
 

@@ -1,13 +1,14 @@
-//! Document 01 written down straight from its text: a second implementation
-//! that shares nothing with the proved one. Obvious before quick.
+//! The rules written straight from docs/RULES.md: a second implementation that
+//! shares nothing with the proved one. Obvious before quick. R and a number is
+//! a rule of that page.
 //!
 //! From the bottom up: `answer`, `flaw`, `record`, `lists`, `log`, `tree`, `state`,
-//! `refresh`, `program`; `layout` for the bytes of a pool. `document` has the examples of document 01, `words`
-//! puts inputs into words, `random` is for tests and for the tool that compares.
+//! `refresh`, `program`; `layout` for the bytes of a pool. `table` has the eleven rows
+//! of R44, `words` puts inputs into words, `random` is for tests and for the tool
+//! that compares.
 #![forbid(unsafe_code)]
 
 pub mod answer;
-pub mod document;
 pub mod flaw;
 pub mod layout;
 pub mod lists;
@@ -17,6 +18,7 @@ pub mod random;
 pub mod record;
 pub mod refresh;
 pub mod state;
+pub mod table;
 pub mod tree;
 pub mod words;
 

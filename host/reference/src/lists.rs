@@ -1,5 +1,5 @@
-//! The writer and the reader with lent lists, as document 01, "The record",
-//! gives them: 4, then 8, both changing nothing, then 0.
+//! The writer (R10) and the reader (R11) with lent lists: 4, then 8, both
+//! changing nothing, then 0.
 
 use crate::answer::Answer;
 use crate::record::{Kind, Point, Record, Scan};

@@ -1,4 +1,4 @@
-//! Walking a log: document 01, "The log".
+//! Walking a log: R13 to R15.
 
 use crate::record::{LEAST_LENGTH, MOST_LENGTH};
 

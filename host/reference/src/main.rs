@@ -1,4 +1,4 @@
-//! The program of document 01 by the reference: standard input is N and Z and a
+//! The program of R41 by the reference: standard input is N and Z and a
 //! log, standard output the lines. `reference words` prints the same input in
 //! hex and in words instead.
 #![forbid(unsafe_code)]

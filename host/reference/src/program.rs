@@ -1,5 +1,4 @@
-//! The program of document 01, "The parts": limits and a log in, a line a
-//! record out.
+//! The program of R41: limits and a log in, a line a record out.
 
 use crate::answer::Answer;
 use crate::log::{LogReader, Step};

@@ -1,4 +1,4 @@
-//! The record of document 01, "The record": read and written by its table.
+//! The record (R4 to R9), read and written by the table of R4.
 
 use crate::flaw::Flaw;
 
@@ -141,7 +141,7 @@ impl Record {
         })
     }
 
-    /// The bytes of the table. Rules are not looked at, so that broken records
+    /// The bytes of R4. Rules are not looked at, so that broken records
     /// can be made too; see `written`.
     pub fn to_bytes(&self) -> Vec<u8> {
         let mut body = vec![1];
@@ -175,7 +175,7 @@ impl Record {
         }
     }
 
-    /// Does a point name this key or a scan cover it?
+    /// Does a point name this key or a scan cover it (R21)?
     pub fn touches(&self, key: u32) -> bool {
         self.touches_any(key, key)
     }

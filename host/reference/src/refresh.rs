@@ -1,4 +1,4 @@
-//! Refresh and the record in force: document 01, "Refresh".
+//! Refresh (R38) and the record in force (R39).
 
 use crate::answer::Answer;
 use crate::log::{LogReader, Step};

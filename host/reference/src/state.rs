@@ -1,4 +1,4 @@
-//! The state and the verdict: document 01, "The state" and "The verdict".
+//! The state (R17) and the verdict (R21 to R31).
 
 use std::collections::{BTreeMap, BTreeSet};
 
@@ -55,7 +55,7 @@ pub struct Write {
 /// An answer and the looks made for it.
 #[derive(Clone, Copy, Debug, PartialEq, Eq)]
 pub struct Verdict {
-    /// The answer of the table.
+    /// The answer of R23.
     pub answer: Answer,
     /// The looks of the conflict search.
     pub looks: u32,
@@ -118,14 +118,14 @@ impl State {
         &self.kept
     }
 
-    /// The payload and write position of a key; none if it is absent, which is
-    /// never written or a tombstone.
+    /// R31: the payload and write position of a key; none if it is absent, which
+    /// is not kept or a tombstone.
     pub fn lookup(&self, key: u32) -> Option<(u64, u32)> {
         let kept = self.kept.get(&key)?;
         kept.payload.map(|payload| (payload, kept.position))
     }
 
-    /// Decides the record at p + 1 and leaves behind what the table says.
+    /// R23: decides the record at p + 1 and leaves behind what the table says.
     pub fn meld(&mut self, bytes: &[u8]) -> Verdict {
         if self.position == u32::MAX {
             return Verdict {
@@ -148,7 +148,7 @@ impl State {
         verdict
     }
 
-    /// Rows 4, 5 and 2: the record, if none of them applies.
+    /// Answers 4, 5 and 2: the record, if none of them applies.
     pub fn admit(&self, bytes: &[u8]) -> Result<Record, Answer> {
         let record = Record::parse(bytes).map_err(|_| Answer::Malformed)?;
         if record.snapshot > self.position {
@@ -160,7 +160,7 @@ impl State {
         Ok(record)
     }
 
-    /// Rows 1, 3 and 0, for a record that was admitted.
+    /// Answers 1, 3 and 0, for a record that was admitted.
     fn decide(&self, record: &Record) -> Answer {
         if self.conflict(record) {
             Answer::Conflict
@@ -171,7 +171,7 @@ impl State {
         }
     }
 
-    /// Row 1, word for word: a key named or covered was written by a committed
+    /// R25, word for word: a key named or scanned was written by a committed
     /// record at s + 1 to p.
     pub fn conflict(&self, record: &Record) -> bool {
         let zone = self
@@ -182,7 +182,7 @@ impl State {
         zone.into_iter().any(|write| record.touches(write.key))
     }
 
-    /// Row 3's count: live keys, tombstones w with w + Z > v, and the keys this
+    /// R26's count: live keys, tombstones w with w + Z > v, and the keys this
     /// record writes, each key once.
     fn needed(&self, record: &Record) -> usize {
         let staying = self
@@ -205,8 +205,8 @@ impl State {
         self.search(record).0
     }
 
-    /// The looks, and whether the walk ends at a conflict. Row 1 is decided
-    /// without it; that the two agree is for tests to see.
+    /// The looks (R36), and whether the search ends at a conflict. That is decided
+    /// by R25, without it; that the two agree is for tests to see.
     pub fn search(&self, record: &Record) -> (u32, bool) {
         let keys: Vec<(u32, u32)> = self
             .kept
@@ -216,7 +216,7 @@ impl State {
         Tree::build(&keys).map_or((0, false), |tree| tree.search(record))
     }
 
-    /// The drop, if it is needed, then the writes at v.
+    /// The drop (R27), if it is needed, then the writes at v (R28).
     fn store(&mut self, record: &Record) {
         let mut together: BTreeSet<u32> = self.kept.keys().copied().collect();
         together.extend(written_keys(record));
@@ -247,7 +247,7 @@ impl State {
     }
 }
 
-/// The keys a record puts or deletes.
+/// The keys a record puts or deletes (R22).
 fn written_keys(record: &Record) -> impl Iterator<Item = u32> + '_ {
     record
         .points

@@ -1,5 +1,5 @@
-//! The tree over the kept keys and the walk that counts looks: document 01,
-//! "The state" (the tree) and "Looks".
+//! The tree over the kept keys (R32 to R34) and the search that counts looks
+//! (R35).
 
 use crate::record::Record;
 

@@ -10,7 +10,7 @@ pub fn hex(bytes: &[u8]) -> String {
     pairs.join(" ")
 }
 
-/// A record as in document 01's table, or why the bytes are none.
+/// A record as in the rows of R44, or why the bytes are none.
 pub fn record_words(bytes: &[u8]) -> String {
     let record = match Record::parse(bytes) {
         Ok(record) => record,

@@ -1,8 +1,8 @@
 //! The two pools of docs/LAYOUT.md, read from there.
 #![forbid(unsafe_code)]
 
-use reference::document;
 use reference::layout::state_of;
+use reference::table;
 use reference::{Limits, State};
 
 /// The pools that docs/LAYOUT.md prints: lines of an offset and 32 bytes in hex.
@@ -23,12 +23,12 @@ fn printed() -> Vec<Vec<u8>> {
 
 #[test]
 fn the_printed_pools_mean_their_states() {
-    let limits = Limits::new(document::N, document::Z).expect("good limits");
+    let limits = Limits::new(table::N, table::Z).expect("good limits");
     let mut state = State::new(limits);
     let pools = printed();
     assert_eq!(pools.len(), 2);
     assert_eq!(state_of(&pools[0]), Some(state.clone()));
-    for record in &document::records()[..2] {
+    for record in &table::records()[..2] {
         state.meld(&record.to_bytes());
     }
     let meant = state_of(&pools[1]).expect("a fit pool");

@@ -1,10 +1,10 @@
 //! The record, the lists and the log: round trips, refusals, cuts.
 
-use reference::document::{record, scanning};
 use reference::lists::{read, write, Lists, ListsOut};
 use reference::log::parts;
 use reference::random::Random;
 use reference::record::with_length;
+use reference::table::{record, scanning};
 use reference::{Answer, Flaw, Kind, LogReader, Point, Record, Scan, Step};
 
 /// A well-formed record with any numbers of points and scans.

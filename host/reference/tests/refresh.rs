@@ -1,7 +1,7 @@
 //! Refresh and the record in force, case by case.
 
-use reference::document::record;
 use reference::refresh::{in_force, refresh};
+use reference::table::record;
 use reference::{Answer, Limits, Point, State};
 
 /// N = 3, Z = 2, after put 10 at position 1 and two empty records.

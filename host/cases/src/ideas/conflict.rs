@@ -1,6 +1,6 @@
-//! Row 1: what is named, what is covered, what was written.
+//! R21, R22, R24: what is named, what is covered, what was written.
 
-use reference::document::{record, scanning};
+use reference::table::{record, scanning};
 use reference::{Point, Record};
 
 use super::melds;

@@ -1,6 +1,6 @@
-//! Document 01, "A log to check by" and "Easy to get wrong".
+//! The log to check by (R44), and the mistakes made most often.
 
-use reference::document::{self, record, scanning};
+use reference::table::{self, record, scanning};
 use reference::{Point, Record};
 
 use super::melds;
@@ -8,7 +8,7 @@ use crate::Case;
 
 /// The rows of the log to check by up to one, then another record.
 fn rows_then(rows: usize, next: Record) -> Vec<Record> {
-    let mut records = document::records();
+    let mut records = table::records();
     records.truncate(rows);
     records.push(next);
     records
@@ -16,7 +16,7 @@ fn rows_then(rows: usize, next: Record) -> Vec<Record> {
 
 /// The cases.
 pub fn all() -> Vec<Case> {
-    let limits = (document::N, document::Z);
+    let limits = (table::N, table::Z);
     vec![
         melds(
             "little-endian-snapshot",
@@ -34,7 +34,7 @@ pub fn all() -> Vec<Case> {
             "document",
             "The log to check by, whole: eleven records with every answer from 0 to 5.",
             limits,
-            &document::records(),
+            &table::records(),
         ),
         melds(
             "absent-read",
@@ -69,7 +69,7 @@ pub fn all() -> Vec<Case> {
         ),
         melds(
             "two-byte-strings",
-            "The two whole records of document 01, both with snapshot 1.",
+            "The records of rows 4 and 3 of the log to check by, byte by byte, in another log: both commit.",
             limits,
             &[
                 record(0, &[Point::put(10, 100)]),

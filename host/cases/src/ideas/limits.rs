@@ -1,7 +1,7 @@
 //! Limits and inputs too short for them.
 
-use reference::document::record;
 use reference::program::join;
+use reference::table::record;
 use reference::Point;
 
 use super::{case, melds};

@@ -1,7 +1,7 @@
 //! Walking the log: its end and what breaks it.
 
-use reference::document::record;
 use reference::record::with_length;
+use reference::table::record;
 use reference::Point;
 
 use super::pieces;

@@ -1,6 +1,6 @@
 //! The looks of the conflict search.
 
-use reference::document::{record, scanning};
+use reference::table::{record, scanning};
 use reference::{Point, Record};
 
 use super::melds;

@@ -1,4 +1,4 @@
-//! The conformance set: small logs, one idea each, by section of document 01.
+//! The conformance set: small logs, one idea each, by section of docs/RULES.md.
 //! The snapshot read little-endian comes first.
 
 mod conflict;
@@ -10,8 +10,8 @@ mod record;
 mod room;
 mod zone;
 
-use reference::document::log as bytes_of;
 use reference::program::join;
+use reference::table::log as bytes_of;
 use reference::Record;
 
 use crate::Case;

@@ -1,8 +1,8 @@
 //! The record: what is well formed and what is not. Each malformed record
 //! stands behind a length that fits, so that the log goes on.
 
-use reference::document::{record, scanning};
 use reference::record::with_length;
+use reference::table::{record, scanning};
 use reference::{Point, Record};
 
 use super::{melds, pieces};

@@ -1,6 +1,6 @@
-//! Row 3 and the drop of tombstones.
+//! No room (R26) and the drop of tombstones (R27).
 
-use reference::document::record;
+use reference::table::record;
 use reference::{Point, Record};
 
 use super::melds;
@@ -20,7 +20,7 @@ fn nothing(snapshot: u32) -> Record {
 
 /// A scan over every key in use: its looks tell what is kept.
 fn look(snapshot: u32) -> Record {
-    reference::document::scanning(snapshot, &[], &[(0, 100)])
+    reference::table::scanning(snapshot, &[], &[(0, 100)])
 }
 
 fn puts(snapshot: u32, keys: &[u32]) -> Record {

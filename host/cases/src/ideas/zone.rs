@@ -1,7 +1,7 @@
 //! Positions, the zone and the order of the checks.
 
-use reference::document::record;
 use reference::record::with_length;
+use reference::table::record;
 use reference::{Point, Record};
 
 use super::{melds, pieces};

@@ -9,8 +9,8 @@ use super::profile::Profile;
 
 /// Inputs whose first 8 bytes are missing or bad, or good with noise behind.
 pub fn bad_start(random: &mut Random) -> Vec<u8> {
-    let whole = join(3, 4, &reference::document::READ_30);
-    let record = &reference::document::READ_30;
+    let whole = join(3, 4, &reference::table::READ_30);
+    let record = &reference::table::READ_30;
     match random.below(6) {
         0 => whole[..random.pick(&[0, 0, 1, 3, 4, 5, 7, 8, 8])].to_vec(),
         1 => join(

@@ -93,7 +93,7 @@ impl Pool {
         }
     }
 
-    /// Rows 1, 3 and 0.
+    /// Answers 1, 3 and 0.
     fn decide_admitted(&mut self, record: &Fields) -> (u8, u32) {
         let mut looks = u32::from(self.entries.is_empty() && self.has(Mistake::EmptyTreeCounted));
         let mut conflict = false;

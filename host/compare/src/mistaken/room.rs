@@ -30,7 +30,7 @@ impl Pool {
         record.points.iter().filter(needs).filter(counted).count()
     }
 
-    /// Row 3: is there room for the record?
+    /// R26: is there room for the record?
     pub(super) fn room(&self, record: &Fields) -> bool {
         let stays = |entry: &Entry| match self.mistake {
             Some(Mistake::TombstonesNeedNoRoom) => entry.live,

@@ -1,4 +1,4 @@
-//! Document 01's own examples: "A log to check by" and the two whole records.
+//! The log to check by, R44: its eleven records, and two of them byte by byte.
 
 use crate::program::join;
 use crate::record::{Point, Record, Scan};

@@ -1,13 +1,13 @@
-//! Document 01's own examples over the safe functions.
+//! The eleven rows of R44 over the safe functions.
 
 use emuparasol::{check, create, cut, in_force, lookup, meld, pool_bytes, read, refresh, write};
 use emuparasol::{Answer, Cut, Lookup, Melded, Reading, Written};
-use reference::document::{self, PUT_30_SCAN, READ_30, VERDICTS};
 use reference::program::split;
+use reference::table::{self, PUT_30_SCAN, READ_30, VERDICTS};
 
 #[test]
 fn the_eleven_rows() {
-    let input = document::input();
+    let input = table::input();
     let (limits, log) = split(&input).expect("good limits");
     let mut pool = vec![0; pool_bytes(limits.n())];
     assert_eq!(create(&mut pool, limits.n(), limits.z()), Answer::Committed);
@@ -80,7 +80,7 @@ fn a_record_that_waited() {
     let mut output = [0; 14];
     assert_eq!(refresh(&pool, &READ_30, &mut output), Answer::Ahead);
     assert_eq!(in_force(Answer::Ahead, &READ_30, &output), READ_30);
-    for record in &document::records()[..2] {
+    for record in &table::records()[..2] {
         meld(&mut pool, &record.to_bytes());
     }
     assert_eq!(refresh(&pool, &READ_30, &mut output), Answer::Committed);
@@ -88,7 +88,7 @@ fn a_record_that_waited() {
     assert_eq!(refreshed[..6], READ_30[..6]);
     assert_eq!(refreshed[6], 2);
     assert_eq!(refreshed[7..], READ_30[7..]);
-    meld(&mut pool, &document::records()[2].to_bytes());
+    meld(&mut pool, &table::records()[2].to_bytes());
     let answer = refresh(&pool, &READ_30, &mut output);
     assert_eq!(answer, Answer::Conflict);
     assert!(in_force(answer, &READ_30, &output).is_empty());

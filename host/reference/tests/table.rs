@@ -1,7 +1,7 @@
-//! Document 01's eleven rows, two byte strings, edges and easy mistakes.
+//! The eleven rows of R44, two of their byte strings, edges and easy mistakes.
 
-use reference::document::{self, log, record, scanning};
 use reference::program::{join, lines, run};
+use reference::table::{self, log, record, scanning};
 use reference::{Answer, Limits, Point, Record, State};
 
 /// The answers and looks for a log.
@@ -22,9 +22,9 @@ fn answers(n: u32, z: u32, records: &[Record]) -> Vec<u8> {
 
 #[test]
 fn the_eleven_rows() {
-    let found = verdicts(document::N, document::Z, &document::records());
-    assert_eq!(found, document::VERDICTS);
-    let state = run(&document::input()).unwrap().state;
+    let found = verdicts(table::N, table::Z, &table::records());
+    assert_eq!(found, table::VERDICTS);
+    let state = run(&table::input()).unwrap().state;
     assert_eq!(
         state.kept().keys().copied().collect::<Vec<_>>(),
         [10, 30, 40]
@@ -38,32 +38,32 @@ fn the_eleven_rows() {
 fn the_eleven_lines() {
     let expected =
         "1 0 0\n2 1 2\n3 0 1\n4 1 5\n5 0 1\n6 3 1\n7 1 4\n8 2 0\n9 0 1\n10 5 0\n11 0 1\n";
-    assert_eq!(lines(&document::input()), format!("{expected}end\n"));
+    assert_eq!(lines(&table::input()), format!("{expected}end\n"));
 }
 
 #[test]
 fn the_two_byte_strings() {
     let read = record(1, &[Point::read(30)]);
     let put = scanning(1, &[Point::put(30, 300)], &[(11, 19)]);
-    assert_eq!(read.written().unwrap(), document::READ_30);
-    assert_eq!(put.written().unwrap(), document::PUT_30_SCAN);
-    assert_eq!(Record::parse(&document::READ_30), Ok(read));
-    assert_eq!(Record::parse(&document::PUT_30_SCAN), Ok(put));
+    assert_eq!(read.written().unwrap(), table::READ_30);
+    assert_eq!(put.written().unwrap(), table::PUT_30_SCAN);
+    assert_eq!(Record::parse(&table::READ_30), Ok(read));
+    assert_eq!(Record::parse(&table::PUT_30_SCAN), Ok(put));
 }
 
 #[test]
 fn an_aborted_record_is_no_writer() {
-    let mut records = document::records();
+    let mut records = table::records();
     records[2] = record(1, &[Point::read(10)]);
     assert_eq!(answers(3, 4, &records[..3]), [0, 1, 0]);
 }
 
 #[test]
 fn a_tombstone_is_not_dropped_a_position_early() {
-    let mut records = document::records();
+    let mut records = table::records();
     records[7] = record(7, &[Point::put(40, 400)]);
     assert_eq!(answers(3, 4, &records[..8])[7], 3);
-    records[7] = document::records()[7].clone();
+    records[7] = table::records()[7].clone();
     assert_eq!(answers(3, 4, &records[..9])[8], 0);
 }
 
@@ -91,10 +91,10 @@ fn edges_of_the_room() {
 #[test]
 fn only_9_for_bad_limits() {
     for length in 0..8 {
-        assert_eq!(lines(&document::input()[..length]), "9\n");
+        assert_eq!(lines(&table::input()[..length]), "9\n");
     }
     for (n, z) in [(0, 4), (1_001, 4), (65_536, 4), (3, 0), (3, 4_097)] {
-        assert_eq!(lines(&join(n, z, &document::READ_30)), "9\n");
+        assert_eq!(lines(&join(n, z, &table::READ_30)), "9\n");
     }
     for (n, z) in [(1, 1), (1_000, 4_096)] {
         assert_eq!(lines(&join(n, z, &[])), "end\n");
