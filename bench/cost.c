@@ -7,7 +7,8 @@
    CALL is look (lookup of an absent key) or a meld of POINTS points: kept (puts of kept keys), new (puts of other keys), read (reads of kept keys),
    old (reads of other keys, with half the position as snapshot), scans (POINTS scans between neighbouring kept keys, the same snapshot), fullest (64
    reads and 8 scans of the 72 numbers, with the position before their combs as snapshot). The others have the position as snapshot. With skip the
-   call is left out; with stack the bytes of stack it used are printed; with compare both are called: same answer, looks and bytes, or status 4. */
+   call is left out; with stack the bytes of stack it used are printed; with compare both are called, and their answers, looks and bytes have to be
+   the same. The status is the call's answer, or one of those below. */
 #include <stdio.h>
 #include <stdlib.h>
 #include <string.h>
@@ -16,6 +17,9 @@
 #include "plain.h"
 
 enum { COMBS = 72, PAINTED = 65536, PAINT = 0xA7 };
+
+/* Statuses that are no answer: a wrong command line or no such file, a pool that was not made, two calls that differ. */
+enum { MISUSED = 20, NOT_MADE = 21, DIFFERENT = 22 };
 
 /* Pool, and what the command line says of it. */
 static uint8_t *pool;
@@ -56,8 +60,9 @@ static size_t record_of(uint8_t *out, uint32_t snapshot, uint32_t *named, size_t
     memset(kinds, kind, sizeof kinds);
     for (size_t i = 0; i < points; i++)
         payloads[i] = kind == EMUPARASOL_KIND_PUT ? named[i] : 0;
-    if (emuparasol_write(snapshot, kinds, points, named, points, payloads, points, lows, scans, highs, scans, out, EMUPARASOL_MOST_RECORD, &size))
-        exit(3);
+    if (emuparasol_write(snapshot, kinds, points, named, points, payloads, points, lows, scans, highs, scans, out, EMUPARASOL_MOST_RECORD, &size) !=
+        EMUPARASOL_COMMITTED)
+        exit(NOT_MADE);
     return size;
 }
 
@@ -66,8 +71,8 @@ static void meld_points(uint32_t *named, size_t points, uint8_t kind) {
     uint8_t record[EMUPARASOL_MOST_RECORD];
     uint32_t looks;
     size_t size = record_of(record, word_at(pool + 12), named, points, kind, &n, &n, 0);
-    if (emuparasol_meld(pool, length, record, size, &looks))
-        exit(3);
+    if (emuparasol_meld(pool, length, record, size, &looks) != EMUPARASOL_COMMITTED)
+        exit(NOT_MADE);
 }
 
 /* Melds points for the first so many keys, 64 a record. */
@@ -101,8 +106,8 @@ static void find_scans(void) {
 static int make(const char *what, uint32_t zone, const char *file, uint32_t tombstones) {
     uint32_t some[64];
     bool combed = !strcmp(what, "comb");
-    if (emuparasol_create(pool, length, n, zone))
-        return 3;
+    if (emuparasol_create(pool, length, n, zone) != EMUPARASOL_COMMITTED)
+        return NOT_MADE;
     meld_first(keys, EMUPARASOL_KIND_PUT);
     for (uint32_t i = 0; combed && i < COMBS; i++) {
         some[0] = comb(i);
@@ -122,7 +127,7 @@ static int make(const char *what, uint32_t zone, const char *file, uint32_t tomb
     }
     FILE *f = fopen(file, "wb");
     if (f == NULL || fwrite(pool, 1, length, f) != length || fwrite(&beside, sizeof beside, 1, f) != 1)
-        return 3;
+        return NOT_MADE;
     fclose(f);
     printf("%s: N %u, Z %u, keys kept %u, position %u\n", what, n, zone, word_at(pool + 16), word_at(pool + 12));
     return 0;
@@ -167,7 +172,7 @@ static __attribute__((noinline)) size_t stack(bool paint) {
 
 int main(int argc, char **argv) {
     if (argc < 6)
-        return 2;
+        return MISUSED;
     const char *what = argv[1];
     bool makes = !strcmp(what, "make") || !strcmp(what, "tombstones") || !strcmp(what, "comb"), plain = !strcmp(what, "plain");
     char **numbers = argv + (makes ? 2 : 3);
@@ -181,13 +186,13 @@ int main(int argc, char **argv) {
         return make(what, third, file, argc > 6 ? (uint32_t)strtoul(argv[6], NULL, 10) : 0);
     FILE *f = fopen(file, "rb");
     if (f == NULL || fread(pool, 1, length, f) != length || fread(&beside, sizeof beside, 1, f) != 1)
-        return 2;
+        return MISUSED;
     fclose(f);
     uint8_t record[EMUPARASOL_MOST_RECORD];
     bool look = !strcmp(call, "look");
     size_t size = look ? 0 : prepare(call, third, record);
     uint32_t looks = 0;
-    uint8_t answer = 0;
+    uint8_t answer = EMUPARASOL_COMMITTED;
     if (!strcmp(more, "stack")) {
         stack(true);
         answer = make_call(plain, look, record, size, &looks);
@@ -202,7 +207,7 @@ int main(int argc, char **argv) {
         uint8_t *after = pool;
         pool = once;
         if (make_call(true, look, record, size, &other_looks) != answer || other_looks != looks || memcmp(after, once, length) != 0)
-            return 4;
+            return DIFFERENT;
         printf("answer %u, looks %u, kept %u\n", answer, look ? 0 : looks, word_at(pool + 16));
     }
     return answer;

@@ -4,12 +4,17 @@
 
 #include <string.h>
 
-enum { HEAD = 64, NODE = 32, MOST_POINTS = 64, MOST_SCANS = 8, DEEPEST = 33 };
+#include "emuparasol.h"
+
+enum { HEAD = 64, NODE = 32, DEEPEST = 33 };
 #define NONE 0xFFFFFFFFu
 
 /* The words of a node, and those of the header, by their offsets. */
 enum { HEIGHT = 0, LOW = 4, NEWEST = 8, OLDEST = 12, LEFT = 16, RIGHT = 20, KIND = 24, SPARE = 28 };
 enum { MARK = 0, LIMIT = 4, ZONE = 8, POSITION = 12, KEPT = 16, ROOT = 20, FREE = 24, REST = 28 };
+
+/* What the word KIND of a node says. */
+enum { NO_LEAF = 0, LIVE = 1, TOMBSTONE = 2 };
 
 static inline uint32_t get(const uint8_t *at) {
     uint32_t x;
@@ -56,9 +61,9 @@ static inline __attribute__((always_inline)) uint64_t sums(struct check *c, uint
     c->leaves++;
     if (newest - 1 >= c->position)
         return 0;
-    if (__builtin_expect(kind == (uint64_t)1 << 32, 1))
+    if (__builtin_expect(kind == (uint64_t)LIVE << 32, 1))
         return oldest == NONE ? both : 0;
-    return kind == (uint64_t)2 << 32 && oldest == newest && get_two(n + LEFT) == 0 ? both : 0;
+    return kind == (uint64_t)TOMBSTONE << 32 && oldest == newest && get_two(n + LEFT) == 0 ? both : 0;
 }
 
 /* The same for an inner node; leaves take no call of their own. */
@@ -127,27 +132,29 @@ uint8_t plain_lookup(const uint8_t *pool, size_t pool_length, uint32_t key, uint
     *payload = 0;
     *position = 0;
     if (!fits(pool, pool_length))
-        return 7;
+        return EMUPARASOL_UNFIT_POOL;
     const uint8_t *leaf = leaf_of(pool, key);
-    if (leaf != NULL && get(leaf + KIND) == 1) {
+    if (leaf != NULL && get(leaf + KIND) == LIVE) {
         *payload = get_two(leaf + LEFT);
         *position = get(leaf + NEWEST);
     }
-    return 0;
+    return EMUPARASOL_COMMITTED;
 }
 
 /* A record's lists. */
 struct record {
     uint32_t snapshot;
     int points, scans;
-    uint8_t kinds[MOST_POINTS];
-    uint32_t keys[MOST_POINTS];
-    uint64_t payloads[MOST_POINTS];
-    uint32_t lows[MOST_SCANS], highs[MOST_SCANS];
+    uint8_t kinds[EMUPARASOL_MOST_POINTS];
+    uint32_t keys[EMUPARASOL_MOST_POINTS];
+    uint64_t payloads[EMUPARASOL_MOST_POINTS];
+    uint32_t lows[EMUPARASOL_MOST_SCANS], highs[EMUPARASOL_MOST_SCANS];
 };
 
 static bool parse(const uint8_t *at, size_t length, struct record *r) {
-    if (length < 9 || length != 2 + (size_t)(at[0] << 8 | at[1]) || at[2] != 1 || at[7] > MOST_POINTS || at[8] > MOST_SCANS)
+    if (length < EMUPARASOL_LEAST_RECORD || length != 2 + (size_t)(at[0] << 8 | at[1]) || at[2] != 1)
+        return false;
+    if (at[7] > EMUPARASOL_MOST_POINTS || at[8] > EMUPARASOL_MOST_SCANS)
         return false;
     const uint8_t *end = at + length;
     r->snapshot = get(at + 3);
@@ -155,7 +162,7 @@ static bool parse(const uint8_t *at, size_t length, struct record *r) {
     r->scans = at[8];
     at += 9;
     for (int i = 0; i < r->points; i++) {
-        if (end - at < 5 || at[0] - 1u > 2)
+        if (end - at < 5 || at[0] < EMUPARASOL_KIND_READ || at[0] > EMUPARASOL_KIND_DELETE)
             return false;
         r->kinds[i] = at[0];
         r->keys[i] = get(at + 1);
@@ -163,7 +170,7 @@ static bool parse(const uint8_t *at, size_t length, struct record *r) {
             return false;
         at += 5;
         r->payloads[i] = 0;
-        if (r->kinds[i] == 2) {
+        if (r->kinds[i] == EMUPARASOL_KIND_PUT) {
             if (end - at < 8)
                 return false;
             r->payloads[i] = get_two(at);
@@ -209,9 +216,9 @@ static bool conflict(struct walk *w, uint32_t i) {
 /* Old tombstones in the tree at node i. */
 static uint32_t count_old(const uint8_t *pool, uint32_t i, uint32_t limit) {
     const uint8_t *n = node_at(pool, i);
-    if (get(n + OLDEST) > limit || get(n + KIND) == 1)
+    if (get(n + OLDEST) > limit || get(n + KIND) == LIVE)
         return 0;
-    if (get(n + KIND) == 2)
+    if (get(n + KIND) == TOMBSTONE)
         return 1;
     return count_old(pool, get(n + LEFT), limit) + count_old(pool, get(n + RIGHT), limit);
 }
@@ -242,7 +249,7 @@ struct freed {
 
 static uint32_t free_node(uint8_t *pool, uint32_t i, uint32_t instead, struct freed *f) {
     f->rank++;
-    write_node(node_at(pool, i), NONE, f->first, f->rank, 0, 0, 0, 0);
+    write_node(node_at(pool, i), NONE, f->first, f->rank, 0, 0, 0, NO_LEAF);
     f->first = i;
     return instead;
 }
@@ -250,9 +257,9 @@ static uint32_t free_node(uint8_t *pool, uint32_t i, uint32_t instead, struct fr
 /* Drops the old tombstones of the tree at node i; the node that stands there then, or none. */
 static uint32_t drop_old(uint8_t *pool, uint32_t i, uint32_t limit, struct freed *f) {
     uint8_t *n = node_at(pool, i);
-    if (get(n + OLDEST) > limit || get(n + KIND) == 1)
+    if (get(n + OLDEST) > limit || get(n + KIND) == LIVE)
         return i;
-    if (get(n + KIND) == 2)
+    if (get(n + KIND) == TOMBSTONE)
         return free_node(pool, i, NONE, f);
     uint32_t left = drop_old(pool, get(n + LEFT), limit, f), right = drop_old(pool, get(n + RIGHT), limit, f);
     if (left == NONE)
@@ -267,7 +274,7 @@ static uint32_t drop_old(uint8_t *pool, uint32_t i, uint32_t limit, struct freed
 
 /* Stores a leaf for the key: one descent, then newest and oldest mended on the way back. */
 static void put(uint8_t *pool, uint32_t key, uint32_t v, uint64_t payload, uint32_t kind) {
-    uint32_t i = get(pool + ROOT), oldest = kind == 2 ? v : NONE, depth = 0;
+    uint32_t i = get(pool + ROOT), oldest = kind == TOMBSTONE ? v : NONE, depth = 0;
     uint8_t *path[DEEPEST], *link = pool + ROOT, *n;
     while (i != NONE && (n = node_at(pool, i), covers(n, key)) && get(n + HEIGHT) > 0) {
         path[depth++] = n;
@@ -286,7 +293,7 @@ static void put(uint8_t *pool, uint32_t key, uint32_t v, uint64_t payload, uint3
             uint32_t low = height == 32 ? 0 : key >> height << height;
             bool before = key < other;
             write_node(node_at(pool, first), height, low, larger(v, get(n + NEWEST)), smaller(oldest, get(n + OLDEST)), before ? leaf : i,
-                       before ? i : leaf, 0);
+                       before ? i : leaf, NO_LEAF);
         } else {
             set(pool + FREE, get(node_at(pool, first) + LOW));
         }
@@ -298,55 +305,57 @@ static void put(uint8_t *pool, uint32_t key, uint32_t v, uint64_t payload, uint3
         mend(pool, path[--depth]);
 }
 
-/* Row 3: 0 enough, 1 after a drop, 2 too little. */
-static int room(const uint8_t *pool, const struct record *r, uint32_t limit) {
+/* Whether there is room for what a record writes. */
+enum room { ENOUGH, AFTER_A_DROP, TOO_LITTLE };
+
+static enum room room_for(const uint8_t *pool, const struct record *r, uint32_t limit) {
     uint32_t n = get(pool + LIMIT), kept = get(pool + KEPT), absent = 0, revived = 0;
     if (kept + (uint32_t)r->points <= n)
-        return 0;
+        return ENOUGH;
     for (int i = 0; i < r->points; i++) {
-        if (r->kinds[i] == 1)
+        if (r->kinds[i] == EMUPARASOL_KIND_READ)
             continue;
         const uint8_t *leaf = leaf_of(pool, r->keys[i]);
         absent += leaf == NULL;
-        revived += leaf != NULL && get(leaf + KIND) == 2 && get(leaf + NEWEST) <= limit;
+        revived += leaf != NULL && get(leaf + KIND) == TOMBSTONE && get(leaf + NEWEST) <= limit;
     }
     if (kept + absent <= n)
-        return 0;
-    return kept + absent + revived - (kept > 0 ? count_old(pool, get(pool + ROOT), limit) : 0) <= n ? 1 : 2;
+        return ENOUGH;
+    return kept + absent + revived - (kept > 0 ? count_old(pool, get(pool + ROOT), limit) : 0) <= n ? AFTER_A_DROP : TOO_LITTLE;
 }
 
 uint8_t plain_meld(uint8_t *pool, size_t pool_length, const uint8_t *record, size_t record_length, uint32_t *looks) {
     struct record r;
     *looks = 0;
     if (!fits(pool, pool_length))
-        return 7;
+        return EMUPARASOL_UNFIT_POOL;
     uint32_t p = get(pool + POSITION), v = p + 1, zone = get(pool + ZONE);
     if (p == NONE)
-        return 6;
+        return EMUPARASOL_POSITIONS_USED_UP;
     set(pool + POSITION, v);
     if (!parse(record, record_length, &r))
-        return 4;
+        return EMUPARASOL_MALFORMED;
     if (r.snapshot > p)
-        return 5;
+        return EMUPARASOL_AHEAD;
     if (p - r.snapshot > zone)
-        return 2;
+        return EMUPARASOL_TOO_OLD;
     struct walk w = {pool, &r, 0, 0, 0};
     bool found = get(pool + ROOT) != NONE && conflict(&w, get(pool + ROOT));
     *looks = w.looks;
     if (found)
-        return 1;
+        return EMUPARASOL_CONFLICT;
     uint32_t limit = zone <= v ? v - zone : 0;
-    int there = room(pool, &r, limit);
-    if (there == 2)
-        return 3;
-    if (there == 1) {
+    enum room room = room_for(pool, &r, limit);
+    if (room == TOO_LITTLE)
+        return EMUPARASOL_NO_ROOM;
+    if (room == AFTER_A_DROP) {
         struct freed f = {get(pool + FREE), get(node_at(pool, get(pool + FREE)) + NEWEST)};
         set(pool + ROOT, drop_old(pool, get(pool + ROOT), limit, &f));
         set(pool + FREE, f.first);
         set(pool + KEPT, (2 * get(pool + LIMIT) + 1 - f.rank) / 2);
     }
     for (int i = 0; i < r.points; i++)
-        if (r.kinds[i] != 1)
-            put(pool, r.keys[i], v, r.payloads[i], r.kinds[i] == 2 ? 1 : 2);
-    return 0;
+        if (r.kinds[i] != EMUPARASOL_KIND_READ)
+            put(pool, r.keys[i], v, r.payloads[i], r.kinds[i] == EMUPARASOL_KIND_PUT ? LIVE : TOMBSTONE);
+    return EMUPARASOL_COMMITTED;
 }
