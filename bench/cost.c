@@ -2,7 +2,8 @@
    the call and without.
      cost make N KEYS ZONE FILE              a pool with KEYS keys, put 64 a record
      cost tombstones N KEYS ZONE FILE COUNT  the same, then COUNT of the keys deleted, and two empty records
-     cost comb N KEYS ZONE FILE              the same, then 72 numbers, then for each the 32 keys that differ from it in one bit
+     cost comb N KEYS ZONE FILE [COUNT]      a pool with KEYS keys, then 72 numbers, then for each the 32 keys that differ from it in one bit;
+                                             with COUNT so many of the 72 deleted then, and two empty records
      cost library|plain CALL N KEYS POINTS FILE [skip|stack|compare]
    CALL is look (lookup of an absent key) or a meld of POINTS points: kept (puts of kept keys), new (puts of other keys), read (reads of kept keys),
    old (reads of other keys, with half the position as snapshot), scans (POINTS scans between neighbouring kept keys, the same snapshot), fullest (64
@@ -115,16 +116,19 @@ static int make(const char *what, uint32_t zone, const char *file, uint32_t tomb
     }
     beside.before_combs = word_at(pool + 12);
     find_scans();
-    if (!strcmp(what, "tombstones")) {
-        meld_first(tombstones, EMUPARASOL_KIND_DELETE);
-        meld_points(some, 0, EMUPARASOL_KIND_READ);
-        meld_points(some, 0, EMUPARASOL_KIND_READ);
-    }
     for (uint32_t i = 0; combed && i < COMBS; i++) {
         for (uint32_t bit = 0; bit < 32; bit++)
             some[bit] = comb(i) ^ (uint32_t)1 << bit;
         meld_points(some, 32, EMUPARASOL_KIND_PUT);
     }
+    if (!combed)
+        meld_first(tombstones, EMUPARASOL_KIND_DELETE);
+    for (uint32_t i = 0; combed && i < tombstones; i++) {
+        some[0] = comb(i);
+        meld_points(some, 1, EMUPARASOL_KIND_DELETE);
+    }
+    for (int i = 0; tombstones > 0 && i < 2; i++)
+        meld_points(some, 0, EMUPARASOL_KIND_READ);
     FILE *f = fopen(file, "wb");
     if (f == NULL || fwrite(pool, 1, length, f) != length || fwrite(&beside, sizeof beside, 1, f) != 1)
         return NOT_MADE;
