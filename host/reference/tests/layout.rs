@@ -1,8 +1,9 @@
-//! The two pools of docs/LAYOUT.md, read from there.
+//! The three pools of docs/LAYOUT.md, read from there.
 #![forbid(unsafe_code)]
 
 use reference::layout::state_of;
-use reference::table;
+use reference::record::Point;
+use reference::table::{self, record};
 use reference::{Limits, State};
 
 /// The pools that docs/LAYOUT.md prints: lines of an offset and 32 bytes in hex.
@@ -26,7 +27,7 @@ fn the_printed_pools_mean_their_states() {
     let limits = Limits::new(table::N, table::Z).expect("good limits");
     let mut state = State::new(limits);
     let pools = printed();
-    assert_eq!(pools.len(), 2);
+    assert_eq!(pools.len(), 3);
     assert_eq!(state_of(&pools[0]), Some(state.clone()));
     for record in &table::records()[..2] {
         state.meld(&record.to_bytes());
@@ -35,6 +36,25 @@ fn the_printed_pools_mean_their_states() {
     assert_eq!(meant.limits(), state.limits());
     assert_eq!(meant.position(), 2);
     assert_eq!(meant.kept(), state.kept());
+}
+
+#[test]
+fn the_pool_after_a_drop_means_its_state() {
+    let mut state = State::new(Limits::new(3, 1).expect("good limits"));
+    let puts = [Point::put(1, 11), Point::put(2, 22), Point::put(8, 88)];
+    let log = [
+        record(0, &puts),
+        record(1, &[Point::delete(1), Point::delete(8)]),
+        record(2, &[Point::put(20, 400)]),
+    ];
+    for record in &log {
+        state.meld(&record.to_bytes());
+    }
+    let meant = state_of(&printed()[2]).expect("a fit pool");
+    assert_eq!(meant.limits(), state.limits());
+    assert_eq!(meant.position(), 3);
+    assert_eq!(meant.kept(), state.kept());
+    assert_eq!(meant.kept().len(), 2);
 }
 
 #[test]
