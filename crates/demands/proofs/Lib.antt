@@ -8,3 +8,5 @@ pub mod Touches
 pub mod Fakes
 pub mod Answers
 pub mod Verdicts
+pub mod Rows
+pub mod Exactly

@@ -4,3 +4,4 @@ pub mod Chains
 pub mod Touches
 pub mod Fakes
 pub mod Answers
+pub mod Exactly
