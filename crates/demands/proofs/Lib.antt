@@ -10,3 +10,4 @@ pub mod Answers
 pub mod Verdicts
 pub mod Rows
 pub mod Exactly
+pub mod Conflicts

@@ -5,3 +5,4 @@ pub mod Touches
 pub mod Fakes
 pub mod Answers
 pub mod Exactly
+pub mod Conflicts
