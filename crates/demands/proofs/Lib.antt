@@ -11,3 +11,4 @@ pub mod Verdicts
 pub mod Rows
 pub mod Exactly
 pub mod Conflicts
+pub mod Calls

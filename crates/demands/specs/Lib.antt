@@ -6,3 +6,4 @@ pub mod Fakes
 pub mod Answers
 pub mod Exactly
 pub mod Conflicts
+pub mod Calls
