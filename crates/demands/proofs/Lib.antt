@@ -12,3 +12,4 @@ pub mod Rows
 pub mod Exactly
 pub mod Conflicts
 pub mod Calls
+pub mod Looks

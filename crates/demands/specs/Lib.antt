@@ -7,3 +7,4 @@ pub mod Answers
 pub mod Exactly
 pub mod Conflicts
 pub mod Calls
+pub mod Looks
