@@ -8,3 +8,4 @@ pub mod Exactly
 pub mod Conflicts
 pub mod Calls
 pub mod Looks
+pub mod TableLog
