@@ -9,3 +9,4 @@ pub mod Conflicts
 pub mod Calls
 pub mod Looks
 pub mod TableLog
+pub mod ListsBack
