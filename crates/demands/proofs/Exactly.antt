@@ -66,7 +66,7 @@ position-put m m′ A i j =
 -- EACH ANSWER EXACTLY WHEN
 
 -- the row of a verdict
-abbrev pub RowOf : List ℕ → List ℕ → Verdict → Type 0
+abbrev RowOf : List ℕ → List ℕ → Verdict → Type 0
 RowOf m bytes committed = Row0 m bytes
 RowOf m bytes conflict = Row1 m bytes
 RowOf m bytes tooOld = Row2 m bytes
@@ -111,10 +111,10 @@ row-applies m bytes S means last = ⊎-elim
         (le-or-lt (r .snapshot) (S .p))
 
 -- a row that applies fixes the verdict, at the state that the pool means
-pub record Fixes (m bytes : List ℕ) (v : Verdict) : Type 0 where
-  pub S : State
-  pub means : Means m S
-  pub fixed : verdict S (parse bytes) ≡ v
+record Fixes (m bytes : List ℕ) (v : Verdict) : Type 0 where
+  S : State
+  means : Means m S
+  fixed : verdict S (parse bytes) ≡ v
 
 row-fixes : (m bytes : List ℕ) (v : Verdict) → RowOf m bytes v → Fixes m bytes v
 row-fixes m bytes positionsUsedUp w = record { S = w .S; means = w .means; fixed = verdict-last (w .S) (parse bytes) (omega (arith, w .used-up)) }
@@ -156,7 +156,8 @@ below-seven ahead = omega arith
 below-seven positionsUsedUp = omega arith
 
 -- but for 6 and 0 the arrangement moves on
-moves-on : (A : Arrangement) (o : Option Rec) (v : Verdict) → verdict (stateOf A) o ≡ v → (verdictAnswer v .number ≡ 6 → ⊥) → (verdictAnswer v .number ≡ 0 → ⊥) → afterIn A o ≡ movedOn A
+moves-on : (A : Arrangement) (o : Option Rec) (v : Verdict) → verdict (stateOf A) o ≡ v
+    → (verdictAnswer v .number ≡ 6 → ⊥) → (verdictAnswer v .number ≡ 0 → ⊥) → afterIn A o ≡ movedOn A
 unfolding afterIn
 moves-on A o v e n₆ n₀ = ap (leftIn A (pointsOf o)) e ∙ go v n₆ n₀
   where

@@ -15,3 +15,4 @@ pub mod Calls
 pub mod Looks
 pub mod TableLog
 pub mod ListsBack
+pub mod SomeRun

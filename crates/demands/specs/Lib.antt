@@ -10,3 +10,4 @@ pub mod Calls
 pub mod Looks
 pub mod TableLog
 pub mod ListsBack
+pub mod SomeRun
