@@ -8,3 +8,11 @@ pub mod Touches
 pub mod Fakes
 pub mod Answers
 pub mod Verdicts
+pub mod Rows
+pub mod Exactly
+pub mod Conflicts
+pub mod Calls
+pub mod Looks
+pub mod TableLog
+pub mod ListsBack
+pub mod SomeRun

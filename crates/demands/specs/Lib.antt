@@ -4,3 +4,10 @@ pub mod Chains
 pub mod Touches
 pub mod Fakes
 pub mod Answers
+pub mod Exactly
+pub mod Conflicts
+pub mod Calls
+pub mod Looks
+pub mod TableLog
+pub mod ListsBack
+pub mod SomeRun

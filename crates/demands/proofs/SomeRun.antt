@@ -1,0 +1,75 @@
+-- Any log can be melded whole: from a pool that creation has answered 0 for, with any meld that keeps its promise. So no theorem on whole
+-- runs, `table-as-a-log` among them, holds for want of a run.
+-- The idea: the log's walk (`walked`) says where to cut next; the pool stays fit, so the meld can be called again.
+-- Assumes nothing.
+use Prim.Native.Nat.{ℕ, _+_, _-_}
+use mathlib.Core.Path.{refl, sym, ap, subst}
+use mathlib.Core.List.{List, [], _∷_}
+use lib.ListN.{drop}
+use denote.Ref.{RefT}
+use Rattle.words.specs.Word.{Bytes}
+use Rattle.words.specs.Laws.{bytes-drop}
+use Rattle.record.specs.Answer.{committed}
+use Rattle.record.proofs.Cases.{by-case}
+use Rattle.log.specs.declared.found.Cut.{Cut}
+use Rattle.log.specs.declared.found.Cut.the-variants.{Record}
+use Rattle.log.specs.Log.{cutAt, partOf, startOf, endsAt, brokenAt, CutIs, HandedOut}
+use Rattle.log.specs.Walk.{Walks, ends, breaks, hands}
+use Rattle.log.proofs.Walk.{walked}
+use Rattle.pool.specs.Image.{Fit}
+use Rattle.create.specs.Fresh.{Created}
+use Rattle.meld.specs.declared.melding.Melded.{Melded}
+use Rattle.demands.specs.Runs.{ReadingOn, so-far, isOver}
+use Rattle.demands.specs.Calls.{Call, none-more}
+use Rattle.demands.specs.SomeRun.{SomeMeld, SomeWhole}
+use Rattle.demands.proofs.Reading.{bytes-take}
+use Rattle.demands.proofs.Calls.{call-stays-fit, stays-fit}
+
+-- what stands at a place is what `cut` promises
+cut-is : (log : List ℕ) (place : ℕ) → CutIs log place (cutAt log place)
+unfolding cutAt
+cut-is log place = record { case = refl; number = by-case (endsAt log place) (λ e. simp e) (λ e. by-case (brokenAt log place) (λ b. simp (e, b)) (λ b. simp (e, b))) }
+
+-- from a place and a pool on, up to where no record is found
+record SomeReading (log : List ℕ) (place : ℕ) (m : List ℕ) (last : Cut) : Type 0 where
+  answers : List Melded
+  stop : ℕ
+  after : List ℕ
+  reading : ReadingOn log place m answers stop after
+  found : CutIs log stop last
+  over : isOver last
+
+some-reading : SomeMeld → {log : List ℕ} {place : ℕ} {parts : List (List ℕ)} {last : Cut} → Bytes log → Walks log place parts last
+    → (m : List ℕ) → Fit m → SomeReading log place m last
+some-reading meld {log = log} {place = place} b (ends e) m f =
+    record { answers = []; stop = place; after = m; reading = so-far; found = subst (CutIs log place) e (cut-is log place); over = tt }
+some-reading meld {log = log} {place = place} b (breaks e) m f =
+    record { answers = []; stop = place; after = m; reading = so-far; found = subst (CutIs log place) e (cut-is log place); over = tt }
+some-reading meld {log = log} {place = place} b (hands {next = next} e w) m f =
+    let lent : RefT (List ℕ) = record { ptr = (0, 0); name = 0; now = log } in
+    let bytes : List ℕ = partOf (Record next) log place in
+    let part : RefT (List ℕ) = record { ptr = (0, 0 + startOf (cutAt log place) place); name = 0; now = bytes } in
+    let handed : HandedOut lent place part = record { bytes = ap (λ (c : Cut). partOf c log place) (sym e); block = refl; start = refl } in
+    let are : Bytes bytes = bytes-take (next - place) (drop place log) (bytes-drop place log b) in
+    let (x, m′, h) = meld m bytes (f .image .bytes) are in
+    let rest = some-reading meld b w m′ (call-stays-fit (Call.meld bytes x are h) f) in
+    record {
+      answers = x ∷ rest .answers;
+      stop = rest .stop;
+      after = rest .after;
+      reading = ReadingOn.one-more {lent = lent} {part = part} refl (subst (CutIs log place) e (cut-is log place)) handed h (rest .reading);
+      found = rest .found;
+      over = rest .over;
+    }
+
+-- every log of bytes has a whole run
+pub some-run : (N Z : ℕ) (log lent new : List ℕ) → Bytes log → Created lent N Z committed new → SomeMeld → SomeWhole N Z log
+some-run N Z log lent new b c meld =
+    let w = walked log 0 in
+    let r = some-reading meld b (w .walks) new (stays-fit lent N Z new new c none-more) in
+    record {
+      answers = r .answers;
+      last = w .last;
+      m = r .after;
+      run = record { place = r .stop; card = record { lent = lent; new = new; created = c; read = r .reading }; found = r .found; over = r .over };
+    }
