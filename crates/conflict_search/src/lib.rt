@@ -11,7 +11,7 @@ ghost use Rattle.conflict_search.specs.Sorted.{Sorted, footprint};
 ghost use Rattle.conflict_search.specs.Conflict.{conflictIn};
 
 pub struct Walked {
-    // The number of the leaf that is the conflict, 4,294,967,295 if there is none.
+    // The number of the leaf that is the conflict, NO_NODE if there is none.
     pub leaf: u32,
     // How many nodes were looked at.
     pub looks: u32,

@@ -7,11 +7,11 @@ use lib.Dec.{ltb, leb, eqb}
 use Rattle.nodes.specs.declared.node.Node.{Node}
 use Rattle.nodes.specs.Nodes.{nodeAt}
 use Rattle.words.specs.Choice.{if_then_else_}
-use Rattle.pool.specs.Plan.{noNode}
+use Rattle.rules.specs.Tree.{noTombstone}
 
 -- the words behind the key of a live key, and of a tombstone
 unfoldable pub liveOk : Node → Bool
-liveOk n = eqb (n .kind) 1 && eqb (n .oldest) noNode
+liveOk n = eqb (n .kind) 1 && eqb (n .oldest) noTombstone
 
 unfoldable pub tombstoneOk : Node → Bool
 tombstoneOk n = eqb (n .kind) 2 && (eqb (n .oldest) (n .newest) && (eqb (n .left) 0 && eqb (n .right) 0))

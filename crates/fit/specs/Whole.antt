@@ -9,7 +9,7 @@ use lib.ListN.{length, getD}
 use Rattle.nodes.specs.declared.node.Node.{Node}
 use Rattle.nodes.specs.Nodes.{nodeAt, headerAt}
 use Rattle.words.specs.Choice.{if_then_else_}
-use Rattle.pool.specs.Plan.{noNode}
+use Rattle.pool.specs.Plan.{noNode, freeHeight}
 use Rattle.pool.specs.Image.{layoutMark}
 use Rattle.fit.specs.Check.{leavesAt}
 
@@ -21,7 +21,7 @@ pub record Decides (P : Type 0) (r : Bool) : Type 0 where
 -- a free node of this rank
 unfoldable pub freeOk : Node → ℕ → Bool
 freeOk n rank =
-    eqb (n .height) noNode && (eqb (n .newest) rank && (eqb (n .oldest) 0 && (eqb (n .left) 0 && (eqb (n .right) 0 && (eqb (n .kind) 0 && eqb (n .spare) 0)))))
+    eqb (n .height) freeHeight && (eqb (n .newest) rank && (eqb (n .oldest) 0 && (eqb (n .left) 0 && (eqb (n .right) 0 && (eqb (n .kind) 0 && eqb (n .spare) 0)))))
 
 -- from node i on so many free nodes, the ranks falling to 1
 unfoldable pub chainOk : List ℕ → ℕ → ℕ → ℕ → Bool

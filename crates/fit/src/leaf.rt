@@ -1,4 +1,5 @@
 // A leaf, looked at by its parent: no call for a leaf.
+use nodes::node::NO_TOMBSTONE;
 use nodes::node::Node;
 use nodes::node::read_node;
 ghost use mathlib.Core.Path.{_≡_};
@@ -18,7 +19,7 @@ fn entry_fits(n: Node) -> bool
         return false;
     }
     if n.kind == 1 {
-        return n.oldest == 4294967295;
+        return n.oldest == NO_TOMBSTONE;
     }
     if n.kind != 2 {
         return false;

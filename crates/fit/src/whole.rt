@@ -4,6 +4,7 @@ use crate::head::head_fits;
 use crate::leaf::leaf_count;
 use crate::leaves::leaves;
 use nodes::header::read_header;
+use nodes::node::NO_NODE;
 use nodes::node::read_node;
 ghost use mathlib.Core.Path.{_≡_};
 ghost use Prim.Native.Nat.{_+_, _*_, _≤_, _<_};
@@ -28,7 +29,7 @@ fn tree_fits(pool: &[u8], nodes: u32, root: u32, kept: u32, p: u32) -> bool
     ensures { λ r. ⌜ r ≡ treeOk (now (pool .entry)) nodes root kept p ⌝ }
 {
     if kept == 0 {
-        return root == 4294967295;
+        return root == NO_NODE;
     }
     if nodes <= root {
         return false;

@@ -2,7 +2,7 @@
 use crate::melding::Melded;
 use commit::commit_after_drop;
 use commit::commit_writes;
-use drop::advance;
+use advance::advance;
 use judge::judge;
 use record::Answer;
 use room::Room;
