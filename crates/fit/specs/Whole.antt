@@ -1,6 +1,6 @@
 -- The rest of the fitness check: the free nodes, the header, and the tree's place in them.
 -- Assumes nothing: these are definitions.
-use Prim.Native.Nat.{ℕ, zero, suc, _+_, _-_, _*_, _≤_, _<_}
+use Prim.Native.Nat.{ℕ, zero, suc, _+_, _-_, _*_, _^_, _≤_, _<_}
 use mathlib.Core.Path.{_≡_}
 use mathlib.Core.Bool.{Bool, true, _&&_}
 use mathlib.Core.List.{List}
@@ -34,7 +34,7 @@ freeCount N c = if eqb c 0 then 2 * N else 2 * N + 1 - 2 * c
 
 -- the leaves of the tree at a root
 abbrev pub leavesFrom : List ℕ → ℕ → ℕ → ℕ
-leavesFrom m nodes root = leavesAt m nodes 33 root 0 4294967296
+leavesFrom m nodes root = leavesAt m nodes 33 root 0 (2 ^ 32)
 
 -- so many keys are kept, in the tree at root, none written after p
 unfoldable pub treeOk : List ℕ → ℕ → ℕ → ℕ → ℕ → Bool

@@ -6,7 +6,8 @@ ghost use mathlib.Core.Path.{_≡_};
 ghost use Prim.Native.Nat.{_+_, _*_, _≤_, _<_};
 ghost use lib.ListN.{length};
 ghost use Rattle.nodes.specs.Nodes.{base, nodeAt};
-ghost use Rattle.fit.specs.Check.{entryOk, leafOk, bit};
+ghost use Rattle.pool.specs.Times.{bit};
+ghost use Rattle.fit.specs.Check.{entryOk, leafOk};
 
 // Whether a leaf's words are those of a live key or of a tombstone, whatever its key.
 fn entry_fits(n: Node) -> bool
