@@ -1,6 +1,6 @@
 -- The drop in an arrangement: its state keeps what is not old, and it is an arrangement again.
 -- Assumes nothing.
-use Prim.Native.Nat.{ℕ, _+_, _-_, _*_, _≤_, _<_}
+use Prim.Native.Nat.{ℕ, _+_, _-_, _*_, _≤_}
 use native.Mathlib.Omega.{arith}
 use mathlib.Core.Path.{_≡_, refl, sym, ap, _∙_}
 use mathlib.Core.Bool.{Bool}
@@ -10,7 +10,7 @@ use lib.ListN.{length, length-append}
 use Rattle.rules.specs.Lists.{keep}
 use Rattle.rules.specs.State.{Entry, State, Lawful}
 use Rattle.rules.specs.Verdict.{young}
-use Rattle.rules.specs.Tree.{Tree, treeOf, entries}
+use Rattle.rules.specs.Tree.{treeOf, entries}
 use Rattle.rules.proofs.Tests.{keep-mem}
 use Rattle.rules.proofs.Sorted.{keep-rising}
 use Rattle.rules.proofs.Prune.{prune, prune-entries, prune-treeOf}

@@ -13,9 +13,9 @@ use Rattle.nodes.specs.Nodes.{base, nodeAt, headerAt}
 use Rattle.rules.specs.Lists.{keep}
 use Rattle.rules.specs.Tree.{entries, oldest}
 use Rattle.rules.proofs.Tests.{keep-append}
-use Rattle.pool.specs.Plan.{Plan, node, treeIn, heightOf, number, numbers, rootNode, noNode}
+use Rattle.pool.specs.Plan.{Plan, node, treeIn, number, numbers, rootNode, noNode}
+use Rattle.pool.specs.Subtree.{heightOf}
 use Rattle.pool.specs.Image.{Arrangement, Image, Fit, stateOf, treeOr, rootOr}
-use Rattle.pool.specs.Times.{times}
 use Rattle.pool.proofs.Numbers.{times-append, below-part, below-mem}
 use Rattle.pool.proofs.Frame.{root-holds, root-in}
 use Rattle.pool.proofs.Words.{root-height, root-oldest}

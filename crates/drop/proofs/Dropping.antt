@@ -8,7 +8,8 @@ use mathlib.Core.List.{List, [], _∷_, List·Memᴰ as Mem, List·Memᴰ·head 
 use mathlib.Core.Option.{Option, none, some}
 use lib.ListN.{length}
 use Rattle.nodes.specs.declared.node.Node.{Node}
-use Rattle.nodes.specs.Nodes.{base, putNode, mended}
+use Rattle.nodes.specs.Nodes.{base, putNode}
+use Rattle.nodes.specs.Mended.{mended}
 use Rattle.nodes.specs.Laws.{bytes-node, node-fits}
 use Rattle.pool.specs.Plan.{Plan, node, number, numbers, noNode, freeNode}
 use Rattle.pool.specs.Image.{HoldsTree, numbersOr, rootOr}

@@ -2,14 +2,15 @@
 -- Assumes nothing.
 use Prim.Native.Nat.{ℕ, _+_, _*_, _≤_}
 use native.Mathlib.Omega.{arith}
-use mathlib.Core.Path.{_≡_, ap, subst, subst⁻¹}
+use mathlib.Core.Path.{_≡_, subst, subst⁻¹}
 use mathlib.Core.List.{List, _++_}
 use mathlib.Core.Option.{Option, some}
 use lib.ListN.{length}
-use Rattle.rules.specs.Tree.{Tree, treeOf, entries}
+use Rattle.rules.specs.Tree.{Tree, entries}
 use Rattle.rules.specs.Shape.{Canonical, none as nothing, one, two, on-left, on-right}
 use Rattle.rules.proofs.Trees.{treeOf-canonical}
-use Rattle.pool.specs.Plan.{Plan, heightOf, numbers}
+use Rattle.pool.specs.Plan.{Plan, numbers}
+use Rattle.pool.specs.Subtree.{heightOf}
 use Rattle.pool.specs.Image.{Arrangement, Arranged, Image, AllBelow, Distinct, HoldsTree, treeOr, numbersOr}
 use Rattle.pool.proofs.Numbers.{times-append, below-part}
 use Rattle.drop.specs.Spot.{Falling, StandsBelow, Spot}

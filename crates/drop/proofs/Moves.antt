@@ -2,12 +2,12 @@
 -- Assumes nothing.
 use Prim.Native.Nat.{ℕ, suc, _+_, _^_, _≤_, _<_}
 use native.Mathlib.Omega.{arith}
-use mathlib.Core.Path.{_≡_, sym, ap, subst, _∙_}
+use mathlib.Core.Path.{_≡_, sym, subst, _∙_}
 use mathlib.Core.List.{List, _∷_, List·Memᴰ as Mem}
 use mathlib.Core.Option.{Option}
 use lib.ListN.{length}
 use Rattle.nodes.specs.declared.node.Node.{Node}
-use Rattle.nodes.specs.Nodes.{base, nodeAt, putNode}
+use Rattle.nodes.specs.Nodes.{base, putNode}
 use Rattle.nodes.specs.Laws.{node-put, node-apart}
 use Rattle.pool.specs.Plan.{Plan, freeNode}
 use Rattle.pool.specs.Image.{HoldsTree, HoldsFree, firstOf, numbersOr}

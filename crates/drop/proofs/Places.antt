@@ -8,9 +8,11 @@ use mathlib.Core.List.{List}
 use mathlib.Core.Option.{none, some}
 use lib.ListN.{length}
 use Rattle.nodes.specs.declared.node.Node.{Node}
-use Rattle.nodes.specs.Nodes.{base, nodeAt, putNode, mended}
+use Rattle.nodes.specs.Nodes.{base, nodeAt, putNode}
+use Rattle.nodes.specs.Mended.{mended}
 use Rattle.rules.specs.Tree.{oldest}
-use Rattle.pool.specs.Plan.{Plan, leaf, node, treeIn, heightOf, number, rootNode, noNode, freeNode}
+use Rattle.pool.specs.Plan.{Plan, leaf, node, treeIn, number, rootNode, noNode, freeNode}
+use Rattle.pool.specs.Subtree.{heightOf}
 use Rattle.pool.specs.Image.{firstOf}
 use Rattle.pool.proofs.Frame.{root-holds, root-in}
 use Rattle.pool.proofs.Words.{root-height, root-oldest}

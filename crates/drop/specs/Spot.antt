@@ -8,7 +8,8 @@ use Rattle.words.specs.Word.{Bytes}
 use Rattle.nodes.specs.Nodes.{base, putNode}
 use Rattle.rules.specs.Tree.{Tree, empty, entries}
 use Rattle.rules.specs.Lists.{keep}
-use Rattle.pool.specs.Plan.{Plan, treeIn, heightOf, number, numbers, freeNode}
+use Rattle.pool.specs.Plan.{Plan, treeIn, number, numbers, freeNode}
+use Rattle.pool.specs.Subtree.{heightOf}
 use Rattle.pool.specs.Image.{Distinct, AllBelow, Holds, HoldsTree, HoldsFree, firstOf, rootOr}
 use Rattle.pool.specs.Frame.{Frame}
 use Rattle.drop.specs.Old.{old}

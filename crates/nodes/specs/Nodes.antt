@@ -1,6 +1,6 @@
 -- The pool as a header of 64 bytes and nodes of 32, both records of words (docs/LAYOUT.md).
 -- Assumes nothing: these are definitions.
-use Prim.Native.Nat.{ℕ, _+_, _*_, max, min}
+use Prim.Native.Nat.{ℕ, _+_, _*_}
 use mathlib.Core.List.{List, [], _∷_}
 use Rattle.words.specs.Word.{word, putWord}
 use Rattle.nodes.specs.declared.node.Node.{Node}
@@ -44,11 +44,6 @@ putNode m i n = putWords m (base i) (nodeWords n)
 -- an inner node's words
 abbrev pub innerNode : ℕ → ℕ → ℕ → ℕ → ℕ → ℕ → Node
 innerNode h low new old l r = record { height = h; low = low; newest = new; oldest = old; left = l; right = r; kind = 0; spare = 0 }
-
--- the pool with node i above the nodes l and r, their newest and oldest carried up
-unfoldable pub mended : List ℕ → ℕ → ℕ → ℕ → ℕ → ℕ → List ℕ
-mended m i h low l r =
-    putNode m i (innerNode h low (max (nodeAt m l .newest) (nodeAt m r .newest)) (min (nodeAt m l .oldest) (nodeAt m r .oldest)) l r)
 
 -- the header's seven words
 unfoldable pub headerAt : List ℕ → Header

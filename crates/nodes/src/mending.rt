@@ -7,7 +7,8 @@ use crate::order::smaller;
 ghost use mathlib.Core.Path.{_≡_};
 ghost use Prim.Native.Nat.{_+_, _≤_};
 ghost use lib.ListN.{length};
-ghost use Rattle.nodes.specs.Nodes.{base, innerNode, mended};
+ghost use Rattle.nodes.specs.Nodes.{base, innerNode};
+ghost use Rattle.nodes.specs.Mended.{mended};
 
 // An inner node.
 pub fn inner(height: u32, low: u32, newest: u32, oldest: u32, left: u32, right: u32) -> Node

@@ -3,12 +3,11 @@
 -- Assumes nothing.
 use Prim.Native.Nat.{ℕ, _+_, _-_, _*_, _/_, _^_, _≤_, _<_}
 use native.Mathlib.Omega.{arith}
-use mathlib.Core.Path.{_≡_, refl, sym, ap, _∙_}
+use mathlib.Core.Path.{_≡_, refl, sym, _∙_}
 use mathlib.Core.List.{List, [], _∷_, _++_}
 use mathlib.Core.Option.{Option, none, some}
 use lib.ListN.{length, length-append, getD}
 use Rattle.words.specs.Word.{Bytes}
-use Rattle.nodes.specs.declared.header.Header.{Header}
 use Rattle.nodes.specs.Nodes.{putHeader}
 use Rattle.nodes.specs.Laws.{HeaderFits, length-header, bytes-header, byte-header, header-put, node-header}
 use Rattle.rules.specs.Tree.{entries}

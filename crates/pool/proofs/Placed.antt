@@ -10,7 +10,8 @@ use lib.Dec.{T}
 use Rattle.rules.specs.State.{Entry}
 use Rattle.rules.specs.Tree.{Tree, empty, first}
 use Rattle.rules.specs.Shape.{full, Canonical, none, one, two, on-left, on-right}
-use Rattle.pool.specs.Plan.{Plan, leaf, node, treeIn, heightOf}
+use Rattle.pool.specs.Plan.{Plan, leaf, node, treeIn}
+use Rattle.pool.specs.Subtree.{heightOf}
 
 -- T holds keys of from .. to − 1
 pub data Placed : ℕ → ℕ → Plan → Type 0 where

@@ -10,11 +10,13 @@ use lib.ListN.{length}
 use Rattle.words.specs.Word.{Bytes}
 use Rattle.words.specs.Choice.{if_then_else_}
 use Rattle.nodes.specs.declared.node.Node.{Node}
-use Rattle.nodes.specs.Nodes.{base, nodeAt, putNode, innerNode, mended}
+use Rattle.nodes.specs.Nodes.{base, nodeAt, putNode, innerNode}
+use Rattle.nodes.specs.Mended.{mended}
 use Rattle.nodes.specs.Laws.{NodeFits, node-put, node-apart, node-fits}
 use Rattle.rules.specs.State.{isLive}
 use Rattle.rules.specs.Tree.{newest, oldest, first, noTombstone}
-use Rattle.pool.specs.Plan.{Plan, leaf, node, treeIn, heightOf, number, numbers, leafNode, rootNode}
+use Rattle.pool.specs.Plan.{Plan, leaf, node, treeIn, number, numbers, leafNode, rootNode}
+use Rattle.pool.specs.Subtree.{heightOf}
 use Rattle.pool.specs.Image.{Holds}
 use Rattle.pool.proofs.Frame.{holds-frame, root-holds}
 

@@ -18,12 +18,6 @@ abbrev pub treeIn : Plan → Tree
 treeIn (leaf i e) = Tree.leaf e
 treeIn (node i h low l r) = Tree.node h low (treeIn l) (treeIn r)
 
--- the height of a tree's root: 0 at a leaf
-abbrev pub heightOf : Tree → ℕ
-heightOf empty = 0
-heightOf (Tree.leaf e) = 0
-heightOf (Tree.node h low l r) = h
-
 -- the number of the root
 abbrev pub number : Plan → ℕ
 number (leaf i e) = i

@@ -8,13 +8,15 @@ use mathlib.Core.List.{List}
 use native.Mathlib.Omega.{arith}
 use lib.ListN.{length}
 use Rattle.nodes.specs.declared.node.Node.{Node}
-use Rattle.nodes.specs.Nodes.{base, nodeAt, putNode, mended}
+use Rattle.nodes.specs.Nodes.{base, nodeAt, putNode}
+use Rattle.nodes.specs.Mended.{mended}
 use Rattle.rules.specs.State.{Entry}
 use Rattle.rules.specs.Tree.{first}
-use Rattle.pool.specs.Plan.{Plan, leaf, node, treeIn, heightOf, number, rootNode}
+use Rattle.pool.specs.Plan.{Plan, leaf, node, treeIn, number, rootNode}
+use Rattle.pool.specs.Subtree.{heightOf}
 use Rattle.pool.specs.Image.{Holds}
 use Rattle.pool.proofs.Frame.{root-holds}
-use Rattle.put.specs.declared.tree.Rooted.{Rooted}
+use Rattle.put.specs.declared.tree.AfterPut.{AfterPut}
 use Rattle.put.specs.Storing.{covered}
 use Rattle.put.specs.Writes.{splitMem}
 use Rattle.put.specs.Places.{leafOf, Falls, Place, PutReady, Puts}
@@ -93,7 +95,7 @@ module _ (m : List ℕ) (i : ℕ) (l : Node) (a b : ℕ) where
                 record { tree = x; entry = e; at = refl; is = is; place = sub },
               )
 
-      pub left-mend : PutReady m i l a b → (m1 : List ℕ) (s : Rooted) → Puts m (n .left) l a b m1 s
+      pub left-mend : PutReady m i l a b → (m1 : List ℕ) (s : AfterPut) → Puts m (n .left) l a b m1 s
           → (base i + 32 ≤ length m1) × (base (s .root) + 32 ≤ length m1) × (base (n .right) + 32 ≤ length m1)
       left-mend g m1 s f = go (g .tree) (g .entry) (g .at) (g .is) (g .place)
         where
@@ -107,7 +109,7 @@ module _ (m : List ℕ) (i : ℕ) (l : Node) (a b : ℕ) where
               let rooms = left-rooms m j h low x y e a b p cov lft in
               rw (ap (λ (k : Node). k .right) v, sub .root-is, sub .frame .length-kept, ← at) rooms
 
-      pub left-case : (m1 : List ℕ) (s : Rooted) → Puts m (n .left) l a b m1 s → (m′ : List ℕ) → m′ ≡ mended m1 i (n .height) (n .low) (s .root) (n .right) → Puts m i l a b m′ (record { root = i; new = s .new })
+      pub left-case : (m1 : List ℕ) (s : AfterPut) → Puts m (n .left) l a b m1 s → (m′ : List ℕ) → m′ ≡ mended m1 i (n .height) (n .low) (s .root) (n .right) → Puts m i l a b m′ (record { root = i; new = s .new })
       left-case m1 s f m′ w (leaf j x) e at is p = absurd (no-leaf j x at (p .holds))
       left-case m1 s f m′ w (node j h low x y) e at is p =
           let v = read-root n q (node j h low x y) at (p .holds) in
@@ -133,7 +135,7 @@ module _ (m : List ℕ) (i : ℕ) (l : Node) (a b : ℕ) where
                 record { tree = y; entry = e; at = refl; is = is; place = sub },
               )
 
-      pub right-mend : PutReady m i l a b → (m1 : List ℕ) (s : Rooted) → Puts m (n .right) l a b m1 s
+      pub right-mend : PutReady m i l a b → (m1 : List ℕ) (s : AfterPut) → Puts m (n .right) l a b m1 s
           → (base i + 32 ≤ length m1) × (base (n .left) + 32 ≤ length m1) × (base (s .root) + 32 ≤ length m1)
       right-mend g m1 s f = go (g .tree) (g .entry) (g .at) (g .is) (g .place)
         where
@@ -147,7 +149,7 @@ module _ (m : List ℕ) (i : ℕ) (l : Node) (a b : ℕ) where
               let rooms = right-rooms m j h low x y e a b p cov rgt in
               rw (ap (λ (k : Node). k .left) v, sub .root-is, sub .frame .length-kept, ← at) rooms
 
-      pub right-case : (m1 : List ℕ) (s : Rooted) → Puts m (n .right) l a b m1 s → (m′ : List ℕ) → m′ ≡ mended m1 i (n .height) (n .low) (n .left) (s .root) → Puts m i l a b m′ (record { root = i; new = s .new })
+      pub right-case : (m1 : List ℕ) (s : AfterPut) → Puts m (n .right) l a b m1 s → (m′ : List ℕ) → m′ ≡ mended m1 i (n .height) (n .low) (n .left) (s .root) → Puts m i l a b m′ (record { root = i; new = s .new })
       right-case m1 s f m′ w (leaf j x) e at is p = absurd (no-leaf j x at (p .holds))
       right-case m1 s f m′ w (node j h low x y) e at is p =
           let v = read-root n q (node j h low x y) at (p .holds) in

@@ -3,7 +3,7 @@
 use Prim.Native.Nat.{ℕ, _+_, _*_, _^_, _≤_, _<_}
 use mathlib.Core.Path.{_≡_, ap, _∙_}
 use mathlib.Core.Bool.{Bool, true, false}
-use mathlib.Core.List.{List, [], _∷_, _++_}
+use mathlib.Core.List.{List, _++_}
 use mathlib.Core.Option.{Option, none, some}
 use native.Mathlib.Omega.{arith}
 use lib.ListN.{length, getD}
@@ -13,12 +13,12 @@ use Rattle.nodes.specs.Nodes.{base, headerAt, putHeader}
 use Rattle.nodes.specs.Laws.{NodeFits}
 use Rattle.words.specs.Choice.{if_then_else_}
 use Rattle.rules.specs.State.{Entry, Fits, lastPosition}
-use Rattle.pool.specs.Plan.{Plan, leaf, node, numbers, leafNode}
-use Rattle.pool.specs.Image.{Arrangement, Arranged, Image, Holds, HoldsTree, HoldsFree, AllBelow, firstOf, headerOf, stateOf, rootOr, numbersOr}
+use Rattle.pool.specs.Plan.{Plan, leaf, numbers, leafNode}
+use Rattle.pool.specs.Image.{Arrangement, Arranged, Image, Holds, HoldsTree, HoldsFree, firstOf, headerOf, stateOf, rootOr}
 use Rattle.pool.specs.Times.{times}
 use Rattle.pool.proofs.Numbers.{times-append, times-mem, mem-times, distinct-times, below-mem}
 use Rattle.pool.specs.Frame.{Frame}
-use Rattle.pool.proofs.Frame.{frame-node, frame-front, holds-frame, free-frame}
+use Rattle.pool.proofs.Frame.{frame-node, frame-front, free-frame}
 use Rattle.pool.proofs.Headers.{image-of}
 use Rattle.put.specs.declared.value.Value.{Value}
 use Rattle.put.specs.Values.{payloadStored, entryOf}

@@ -3,7 +3,6 @@
 use Prim.Native.Nat.{ℕ, _*_, _/_, _^_, _<_, max, min}
 use mathlib.Core.Path.{_≡_, refl}
 use mathlib.Core.Bool.{Bool, true, false}
-use mathlib.Core.Option.{Option, none, some}
 use native.Mathlib.Omega.{arith}
 use native.Mathlib.Nat.{div-mul-le-self}
 use lib.Dec.{ltb}

@@ -15,7 +15,8 @@ use Rattle.nodes.specs.Laws.{NodeFits, node-fits, node-put, node-apart, bytes-n
 use Rattle.words.specs.Choice.{if_then_else_}
 use Rattle.rules.specs.State.{Entry}
 use Rattle.rules.specs.Tree.{first}
-use Rattle.pool.specs.Plan.{Plan, leaf, node, treeIn, heightOf, number, numbers, rootNode}
+use Rattle.pool.specs.Plan.{Plan, leaf, node, treeIn, number, numbers, rootNode}
+use Rattle.pool.specs.Subtree.{heightOf}
 use Rattle.pool.specs.Image.{Holds}
 use Rattle.pool.specs.Times.{bit, times}
 use Rattle.pool.proofs.Numbers.{times-append, times-same, mem-times}

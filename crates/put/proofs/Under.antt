@@ -8,7 +8,8 @@ use native.Mathlib.Omega.{arith}
 use lib.ListN.{length}
 use lib.Dec.{eqb}
 use Rattle.nodes.specs.declared.node.Node.{Node}
-use Rattle.nodes.specs.Nodes.{base, mended}
+use Rattle.nodes.specs.Nodes.{base}
+use Rattle.nodes.specs.Mended.{mended}
 use Rattle.nodes.specs.Laws.{node-fits, bytes-node}
 use Rattle.rules.specs.State.{Entry}
 use Rattle.pool.specs.Plan.{Plan, node, number, numbers}
@@ -18,7 +19,7 @@ use Rattle.pool.proofs.Numbers.{mem-times}
 use Rattle.pool.specs.Frame.{Frame}
 use Rattle.pool.proofs.Frame.{frame-put, frame-widen, frame-then, frame-node, holds-frame}
 use Rattle.pool.proofs.Words.{mended-holds}
-use Rattle.put.specs.declared.tree.Rooted.{Rooted}
+use Rattle.put.specs.declared.tree.AfterPut.{AfterPut}
 use Rattle.put.specs.Storing.{covered, has, putPlan}
 use Rattle.put.specs.Places.{Place, Done}
 use Rattle.put.proofs.Steps.{times-node, bit-same, still-in, root-counted, small, falls-up}
@@ -72,7 +73,7 @@ module _ (m : List ℕ) (i h low : ℕ) (l r : Plan) (e : Entry) (a b : ℕ) (p 
     )
 
     -- the node above the stored subtree
-    pub left-step : (m1 : List ℕ) (s : Rooted) → Done m l e a b m1 s
+    pub left-step : (m1 : List ℕ) (s : AfterPut) → Done m l e a b m1 s
         → Done m (node i h low l r) e a b (mended m1 i h low (s .root) (number r)) (record { root = i; new = s .new })
     unfolding mended
     left-step m1 s q =
@@ -125,7 +126,7 @@ module _ (m : List ℕ) (i h low : ℕ) (l r : Plan) (e : Entry) (a b : ℕ) (p 
     )
 
     -- the node above the stored subtree
-    pub right-step : (m1 : List ℕ) (s : Rooted) → Done m r e a b m1 s
+    pub right-step : (m1 : List ℕ) (s : AfterPut) → Done m r e a b m1 s
         → Done m (node i h low l r) e a b (mended m1 i h low (number l) (s .root)) (record { root = i; new = s .new })
     unfolding mended
     right-step m1 s q =

@@ -15,10 +15,10 @@ use Rattle.nodes.specs.Laws.{node-put, bytes-node}
 use Rattle.rules.specs.State.{Entry}
 use Rattle.rules.specs.Tree.{entries}
 use Rattle.pool.specs.Plan.{Plan, leaf, node, treeIn, number, numbers, leafNode, noNode}
-use Rattle.pool.specs.Image.{Arrangement, Image, AllBelow, numbersOr, firstOf, headerOf}
+use Rattle.pool.specs.Image.{Arrangement, Image, AllBelow, firstOf, headerOf}
 use Rattle.pool.specs.Times.{times}
 use Rattle.pool.proofs.Frame.{frame-put, frame-widen, frame-header}
-use Rattle.put.specs.declared.tree.Rooted.{Rooted}
+use Rattle.put.specs.declared.tree.AfterPut.{AfterPut}
 use Rattle.put.specs.declared.value.Value.{Value}
 use Rattle.put.specs.Values.{payloadStored, entryOf}
 use Rattle.put.specs.Storing.{has, putPlan, restOf, putIn}
@@ -160,7 +160,7 @@ module _ (m : List ℕ) (k : ℕ) (v : Value) (hd : Header) (l : Node) (g : Room
         go N Z p none free a = absurd (no-empty N Z p free a z)
         go N Z p (some T) free a = record { tree = T; entry = ent p; at = root-is N Z p T free a; is = leaf-is (arr N Z p (some T) free) a; place = place N Z p T free a }
 
-    module _ (m1 : List ℕ) (s : Rooted) (f : Puts m (hd .root) l (hd .free) second m1 s) where
+    module _ (m1 : List ℕ) (s : AfterPut) (f : Puts m (hd .root) l (hd .free) second m1 s) where
       done : (N Z p : ℕ) (T : Plan) (free : List ℕ) → Image m (arr N Z p (some T) free) → Done m T (ent p) (firstOf free) (firstOf (restOf free)) m1 s
       done N Z p T free a =
           let A = arr N Z p (some T) free in

@@ -64,8 +64,8 @@ pub fn put(pool: &mut [u8], key: u32, value: Value)
         return;
     }
     let third = next_free(pool, second);
-    let rooted = put_at(pool, header.root, leaf, first, second);
-    if rooted.new {
-        write_header(pool, with_key(header, rooted.root, third));
+    let after = put_at(pool, header.root, leaf, first, second);
+    if after.new {
+        write_header(pool, with_key(header, after.root, third));
     }
 }

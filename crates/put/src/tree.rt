@@ -18,7 +18,7 @@ ghost use Rattle.put.specs.Writes.{splitMem};
 ghost use Rattle.put.specs.Places.{PutReady, Puts};
 
 // Where the tree's root is afterwards, and whether its key was not there before.
-pub struct Rooted {
+pub struct AfterPut {
     pub root: u32,
     pub new: bool,
 }
@@ -52,7 +52,7 @@ fn split(pool: &mut [u8], i: u32, n: Node, leaf: Node, a: u32, b: u32)
 }
 
 // Stores the leaf in the tree at node i; a and b are the nodes that a new key takes.
-pub fn put_at(pool: &mut [u8], i: u32, leaf: Node, a: u32, b: u32) -> Rooted
+pub fn put_at(pool: &mut [u8], i: u32, leaf: Node, a: u32, b: u32) -> AfterPut
     requires { ⌜ PutReady (now pool) i leaf a b ⌝ }
     ensures { λ r. ⌜ Puts (now (pool .entry)) i leaf a b (now (pool .exit)) r ⌝ }
 {
@@ -60,7 +60,7 @@ pub fn put_at(pool: &mut [u8], i: u32, leaf: Node, a: u32, b: u32) -> Rooted
     if covers(n.low, n.height, leaf.low) {
         if n.height == 0 {
             write_node(pool, i, leaf);
-            return Rooted {
+            return AfterPut {
                 root: i,
                 new: false,
             };
@@ -68,18 +68,18 @@ pub fn put_at(pool: &mut [u8], i: u32, leaf: Node, a: u32, b: u32) -> Rooted
         if covers(n.low, n.height - 1, leaf.low) {
             let under = put_at(pool, n.left, leaf, a, b);
             mend(pool, i, n.height, n.low, under.root, n.right);
-            return Rooted {
+            return AfterPut {
                 root: i,
                 new: under.new,
             };
         }
         let under = put_at(pool, n.right, leaf, a, b);
         mend(pool, i, n.height, n.low, n.left, under.root);
-        return Rooted {
+        return AfterPut {
             root: i,
             new: under.new,
         };
     }
     split(pool, i, n, leaf, a, b);
-    Rooted { root: a, new: true }
+    AfterPut { root: a, new: true }
 }

@@ -1,7 +1,7 @@
 -- `mend` meets its contract: the words that it writes are the children's, as they stood in the bytes lent.
 -- Assumes nothing.
 use borrow.Author.Needs.{needs}
-use Rattle.nodes.specs.Nodes.{mended}
+use Rattle.nodes.specs.Mended.{mended}
 use Rattle.nodes.proofs.mending.mend.Statement.{statement}
 use Rattle.nodes.proofs.mending.mend.Tie as tie
 
