@@ -12,7 +12,8 @@ use Rattle.rules.specs.State.{Entry}
 use Rattle.rules.specs.Verdict.{storeAll}
 use Rattle.pool.specs.Image.{Arrangement, Image, Fit, stateOf}
 use Rattle.drop.specs.Old.{stays}
-use Rattle.drop.specs.Drop.{dropIn, movedOn}
+use Rattle.drop.specs.Drop.{dropIn}
+use Rattle.advance.specs.Moved.{movedOn}
 use Rattle.drop.proofs.Arranging.{drop-kept}
 use Rattle.commit.specs.Applied.{writesIn, storeIn, Applicable, Applies}
 use Rattle.commit.specs.Commit.{oldAt, commitIn, commitLean, Committable, allKept, notOld}

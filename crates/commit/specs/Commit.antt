@@ -10,7 +10,8 @@ use Rattle.rules.specs.Verdict.{storeAll}
 use Rattle.rules.specs.EntryFits.{EntryFits}
 use Rattle.pool.specs.Image.{Arrangement, Image, stateOf}
 use Rattle.drop.specs.Old.{stays}
-use Rattle.drop.specs.Drop.{dropIn, movedOn}
+use Rattle.drop.specs.Drop.{dropIn}
+use Rattle.advance.specs.Moved.{movedOn}
 use Rattle.commit.specs.Applied.{writesIn, storeIn}
 
 -- the last position whose tombstones are old at p + 1

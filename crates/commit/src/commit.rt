@@ -1,6 +1,6 @@
 // The two ways to commit: with nothing dropped, and with the old tombstones dropped first.
 use crate::apply::apply;
-use drop::advance;
+use advance::advance;
 use drop::drop_old;
 use nodes::read_header;
 ghost use mathlib.Core.Path.{_≡_};

@@ -25,32 +25,32 @@ use Rattle.pool.specs.Plan.{Plan, treeIn, noNode}
 use Rattle.pool.specs.Image.{Arrangement, Image, treeOr, stateOf}
 use Rattle.pool.specs.Subtree.{StandsAt}
 use Rattle.pool.proofs.Root.{Rooting, bare, planted, rooting}
-use Rattle.conflict_search.specs.declared.Walked.{Walked}
+use Rattle.conflict_search.specs.declared.Searched.{Searched}
 use Rattle.conflict_search.specs.Sorted.{footprint}
 use Rattle.conflict_search.specs.Conflict.{Leaf, leavesOf, leavesOr, firstHit, conflictIn}
 use Rattle.conflict_search.proofs.Hit.{First, no-leaf, one-leaf, first-hit, found-true, found-false}
 use Rattle.conflict_search.proofs.Reach.{footprint-reach}
 
 -- whether the answer names a leaf
-abbrev pub named : Walked → Bool
-named r = not (eqb (r .leaf) noNode)
+abbrev pub namesLeaf : Searched → Bool
+namesLeaf r = not (eqb (r .leaf) noNode)
 
 -- in an empty tree, and in any other
-named-none : (s : ℕ) (f : List Scan) → named (conflictIn s f none) ≡ walk s f (treeOr none) .found
+named-none : (s : ℕ) (f : List Scan) → namesLeaf (conflictIn s f none) ≡ walk s f (treeOr none) .found
 unfolding firstHit walk
 named-none s f = refl
 
-named-tree : (s : ℕ) (f : List Scan) {m : List ℕ} {i : ℕ} (P : Plan) → StandsAt m i P → named (conflictIn s f (some P)) ≡ walk s f (treeIn P) .found
+named-tree : (s : ℕ) (f : List Scan) {m : List ℕ} {i : ℕ} (P : Plan) → StandsAt m i P → namesLeaf (conflictIn s f (some P)) ≡ walk s f (treeIn P) .found
 named-tree s f P st = elim (ℕ-discrete (firstHit s f (leavesOf P)) noNode) [
   | yes e ↦ rw (eq-eqb (firstHit s f (leavesOf P)) noNode e) (sym (found-false s f P st e))
   | no d ↦ rw (ne-eqb (firstHit s f (leavesOf P)) noNode d) (sym (found-true s f P st d))
 ]
 
 -- a leaf is named exactly if the walk finds the conflict
-pub named-found : {m : List ℕ} {A : Arrangement} (s : ℕ) (f : List Scan) → Image m A → named (conflictIn s f (A .tree)) ≡ walk s f (treeOr (A .tree)) .found
+pub named-found : {m : List ℕ} {A : Arrangement} (s : ℕ) (f : List Scan) → Image m A → namesLeaf (conflictIn s f (A .tree)) ≡ walk s f (treeOr (A .tree)) .found
 named-found {m} {A} s f x = go (rooting x)
   where
-    go : Rooting m A → named (conflictIn s f (A .tree)) ≡ walk s f (treeOr (A .tree)) .found
+    go : Rooting m A → namesLeaf (conflictIn s f (A .tree)) ≡ walk s f (treeOr (A .tree)) .found
     go (bare e w) = rw e (named-none s f)
     go (planted P e st) = rw e (named-tree s f P st)
 
@@ -66,7 +66,7 @@ named-hits s f t d = go (first-hit s f (leavesOr t)) refl
 -- FOR A RECORD
 
 -- what the walk answers for a record's lists
-abbrev pub conflictOf : Arrangement → Rec → Walked
+abbrev pub conflictOf : Arrangement → Rec → Searched
 conflictOf A r = conflictIn (r .snapshot) (footprint (map keyOf (r .points)) (map lowOf (r .scans)) (map highOf (r .scans))) (A .tree)
 
 -- the walk of the lists in the pool's tree is the walk of the record in the state's
@@ -81,7 +81,7 @@ pub looks-walk : {m : List ℕ} {A : Arrangement} (r : Rec) → Image m A → co
 looks-walk r x = ap (λ (w : rules.Walked). w .looks) (same-walk r x)
 
 -- a leaf is named exactly if the state's entries are in conflict with the record
-pub named-conflicts : {m : List ℕ} {A : Arrangement} (r : Rec) → Image m A → named (conflictOf A r) ≡ conflicts (stateOf A) r
+pub named-conflicts : {m : List ℕ} {A : Arrangement} (r : Rec) → Image m A → namesLeaf (conflictOf A r) ≡ conflicts (stateOf A) r
 named-conflicts {m} {A} r x =
     named-found (r .snapshot) (footprint (map keyOf (r .points)) (map lowOf (r .scans)) (map highOf (r .scans))) x
     ∙ ap (λ (w : rules.Walked). w .found) (same-walk r x) ∙ walk-conflicts r (x .arranged .lawful)

@@ -13,7 +13,8 @@ use Rattle.rules.specs.Footprint.{meets}
 use Rattle.rules.specs.Tree.{Walked, walk}
 use Rattle.pool.specs.Plan.{Plan, leaf, node, treeIn, noNode, rootNode}
 use Rattle.pool.specs.Subtree.{StandsAt, Rooted, startAt}
-use Rattle.pool.proofs.Subtree.{node-reads, leaf-height, stands-left, stands-right, Inner, inner, rooted-spans}
+use Rattle.pool.proofs.Words.{leaf-height}
+use Rattle.pool.proofs.Subtree.{node-reads, stands-left, stands-right, Inner, inner, rooted-spans}
 use Rattle.conflict_search.specs.declared.search.Progress.{Progress}
 use Rattle.conflict_search.specs.Sorted.{footprint}
 use Rattle.conflict_search.specs.Cursor.{Passed, Reached, belowAt}

@@ -17,7 +17,8 @@ use Rattle.rules.specs.Tree as rules
 use Rattle.rules.proofs.Tests.{if-ind}
 use Rattle.pool.specs.Plan.{Plan, leaf, node, treeIn, numbers, noNode, rootNode}
 use Rattle.pool.specs.Subtree.{StandsAt}
-use Rattle.pool.proofs.Subtree.{halved, leaf-height, leaf-low, leaf-newest, stands-left}
+use Rattle.pool.proofs.Words.{leaf-height, leaf-low, leaf-newest}
+use Rattle.pool.proofs.Subtree.{halved, stands-left}
 use Rattle.conflict_search.specs.Conflict.{leavesOf, firstHit}
 use Rattle.conflict_search.proofs.Hit.{first-left, first-right, leaf-there, found-true, found-false}
 

@@ -10,7 +10,7 @@ use Rattle.rules.specs.Verdict.{hits}
 use Rattle.rules.specs.Tree.{walk}
 use Rattle.pool.specs.Plan.{Plan, leaf, node, noNode}
 use Rattle.pool.specs.Image.{treeOr}
-use Rattle.conflict_search.specs.declared.Walked.{Walked}
+use Rattle.conflict_search.specs.declared.Searched.{Searched}
 
 -- a leaf's number and its entry
 pub record Leaf : Type 0 where
@@ -33,5 +33,5 @@ firstHit s f [] = noNode
 firstHit s f (x ∷ xs) = if hits s f (x .entry) then x .number else firstHit s f xs
 
 -- that leaf, and how many nodes document 01's walk looks at
-abbrev pub conflictIn : ℕ → List Scan → Option Plan → Walked
+abbrev pub conflictIn : ℕ → List Scan → Option Plan → Searched
 conflictIn s f t = record { leaf = firstHit s f (leavesOr t); looks = walk s f (treeOr t) .looks }

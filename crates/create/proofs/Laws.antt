@@ -1,6 +1,6 @@
 -- What the code of creation knows at each turn and at its answers; a new pool is the image of the fresh arrangement.
 -- Assumes nothing.
-use Prim.Native.Nat.{ℕ, zero, suc, _+_, _-_, _*_, _≤_, _<_}
+use Prim.Native.Nat.{ℕ, zero, suc, _+_, _-_, _*_, _^_, _≤_, _<_}
 use mathlib.Core.Path.{_≡_, refl, sym, ap, _∙_, subst}
 use mathlib.Core.Bool.{Bool, true, false, not, _&&_}
 use mathlib.Core.List.{List, [], _∷_}
@@ -23,8 +23,9 @@ use Rattle.words.specs.Choice.{if_then_else_}
 use Rattle.rules.specs.State.{Rising}
 use Rattle.rules.specs.Tree.{entries}
 use Rattle.rules.proofs.Trees.{tree-none}
-use Rattle.pool.specs.Plan.{noNode, freeNode}
+use Rattle.pool.specs.Plan.{noNode, freeHeight, freeNode}
 use Rattle.pool.specs.Image.{AllBelow, Arranged, HoldsFree, firstOf, layoutMark, headerOf, Image}
+use Rattle.pool.specs.Times.{bit}
 use Rattle.pool.proofs.Apart.{free-distinct}
 use Rattle.create.specs.Fresh.{upFrom, freshPlan, limitsOk, Created}
 use Rattle.create.specs.Steps.{nextFree, FreedBefore, Cleared}
@@ -51,10 +52,6 @@ module _ (n z size : ℕ) where
   pub in-range : 1 ≤ n → n ≤ 65536 → 1 ≤ z → z ≤ 4096 → eqb size (64 + 64 * n) ≡ limitsOk n z size
   unfolding limitsOk
   in-range a b c d = rw (le-leb 1 n a, le-leb n 65536 b, le-leb 1 z c, le-leb z 4096 d)
-
-abbrev bit : Bool → ℕ
-bit true = 1
-bit false = 0
 
 differ {ℓ} : {A : Type ℓ} → true ≡ false → A
 differ h = absurd (omega (arith, ap bit h))
@@ -87,7 +84,7 @@ pub next-more : (nodes i : ℕ) → (i + 1 ≡ nodes → ⊥) → i + 1 ≡ next
 next-more nodes i e = rw (ne-eqb (i + 1) nodes e)
 
 pub free-made : (nodes i next behind : ℕ) → next ≡ nextFree nodes i → behind + 1 ≡ nodes - i
-    → record { height = noNode; low = next; newest = behind + 1; oldest = 0; left = 0; right = 0; kind = 0; spare = 0 } ≡ freeNode (nextFree nodes i) (nodes - i)
+    → record { height = freeHeight; low = next; newest = behind + 1; oldest = 0; left = 0; right = 0; kind = 0; spare = 0 } ≡ freeNode (nextFree nodes i) (nodes - i)
 free-made nodes i next behind e r = λ k. freeNode (e k) (r k)
 
 pub freed-none : (nodes : ℕ) (m : List ℕ) → Bytes m → FreedBefore nodes 0 m m
@@ -96,7 +93,7 @@ freed-none nodes m b = record { as-long = refl; bytes = b; freed = λ j l. absur
 next-fits : (nodes i : ℕ) → i < nodes → nodes ≤ 131072 → nextFree nodes i < 4294967296
 next-fits nodes i l s = go (eqb (i + 1) nodes)
   where
-    go : (b : Bool) → (if b then noNode else (i + 1)) < 4294967296
+    go : (b : Bool) → (if b then noNode else (i + 1)) < 2 ^ 32
     go true = omega arith
     go false = omega arith
 

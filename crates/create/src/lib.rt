@@ -1,8 +1,10 @@
 // A NEW POOL: every node free, in the order of the numbers, position 0 and no key.
-use nodes::header::Header;
-use nodes::header::write_header;
-use nodes::node::Node;
-use nodes::node::write_node;
+use nodes::FREE;
+use nodes::Header;
+use nodes::NO_NODE;
+use nodes::Node;
+use nodes::write_header;
+use nodes::write_node;
 use record::answer::Answer;
 ghost use mathlib.Core.Path.{_≡_};
 ghost use Prim.Native.Nat.{_+_, _-_, _*_, _≤_, _<_};
@@ -37,9 +39,9 @@ fn free_node(i: u32, nodes: u32) -> Node
     ensures { λ r. ⌜ r ≡ freeNode (nextFree nodes i) (nodes - i) ⌝ }
 {
     let behind = nodes - 1 - i;
-    let next = if behind == 0 { 4294967295 } else { i + 1 };
+    let next = if behind == 0 { NO_NODE } else { i + 1 };
     Node {
-        height: 4294967295,
+        height: FREE,
         low: next,
         newest: behind + 1,
         oldest: 0,
@@ -90,7 +92,7 @@ pub fn create(pool: &mut [u8], n: u32, z: u32) -> Answer
         zone: z,
         position: 0,
         kept: 0,
-        root: 4294967295,
+        root: NO_NODE,
         free: 0,
     };
     write_header(pool, header);

@@ -15,9 +15,9 @@ use Rattle.nodes.specs.Nodes.{headerAt, putHeader}
 use Rattle.nodes.specs.Laws.{byte-header}
 use Rattle.pool.specs.Image.{Arrangement, Image, headerOf}
 use Rattle.pool.proofs.Fixed.{one-image}
-use Rattle.drop.specs.Drop.{movedOn}
-use Rattle.drop.proofs.Arranging.{onward-arranged}
-use Rattle.drop.proofs.Headers.{image-of}
+use Rattle.advance.specs.Moved.{movedOn}
+use Rattle.advance.proofs.Moving.{onward-arranged}
+use Rattle.pool.proofs.Headers.{image-of}
 use Rattle.demands.specs.Touches.{Within, positionFrom, positionTo}
 
 -- equal words have equal bytes

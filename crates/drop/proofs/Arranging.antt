@@ -1,6 +1,6 @@
 -- The drop in an arrangement: its state keeps what is not old, and it is an arrangement again.
 -- Assumes nothing.
-use Prim.Native.Nat.{ℕ, _+_, _-_, _*_, _≤_, _<_}
+use Prim.Native.Nat.{ℕ, _+_, _-_, _*_, _≤_}
 use native.Mathlib.Omega.{arith}
 use mathlib.Core.Path.{_≡_, refl, sym, ap, _∙_}
 use mathlib.Core.Bool.{Bool}
@@ -8,9 +8,9 @@ use mathlib.Core.List.{List, _++_}
 use mathlib.Core.Option.{Option, none, some}
 use lib.ListN.{length, length-append}
 use Rattle.rules.specs.Lists.{keep}
-use Rattle.rules.specs.State.{Entry, State, Lawful, lastPosition}
-use Rattle.rules.specs.Verdict.{young, step}
-use Rattle.rules.specs.Tree.{Tree, treeOf, entries}
+use Rattle.rules.specs.State.{Entry, State, Lawful}
+use Rattle.rules.specs.Verdict.{young}
+use Rattle.rules.specs.Tree.{treeOf, entries}
 use Rattle.rules.proofs.Tests.{keep-mem}
 use Rattle.rules.proofs.Sorted.{keep-rising}
 use Rattle.rules.proofs.Prune.{prune, prune-entries, prune-treeOf}
@@ -19,7 +19,7 @@ use Rattle.pool.specs.Image.{Arrangement, Arranged, treeOr, numbersOr, stateOf}
 use Rattle.pool.specs.Times.{times}
 use Rattle.pool.proofs.Numbers.{times-append, distinct-times, times-distinct, below-times, times-below}
 use Rattle.drop.specs.Old.{old, stays}
-use Rattle.drop.specs.Drop.{dropTree, freedTree, dropIn, movedOn}
+use Rattle.drop.specs.Drop.{dropTree, freedTree, dropIn}
 use Rattle.drop.proofs.Olds.{keep-young, old-or-stays}
 use Rattle.drop.proofs.Plans.{drop-tree, drop-times, drop-length}
 
@@ -86,27 +86,3 @@ drop-arranged limit A g = record {
   where
     joined : (j : ℕ) → times j (numbersOr (dropTree limit (A .tree)) ++ freedTree limit (A .tree) (A .free)) ≡ times j (numbersOr (A .tree) ++ A .free)
     joined j = times-append j (numbersOr (dropTree limit (A .tree))) (freedTree limit (A .tree) (A .free)) ∙ tree-times j limit (A .tree) (A .free) ∙ sym (times-append j (numbersOr (A .tree)) (A .free))
-
--- ONE POSITION ON
-
--- the state is the one that the rules leave where nothing is stored
-pub onward-state : (A : Arrangement) → stateOf (movedOn A) ≡ step (stateOf A) (stateOf A .kept)
-onward-state A = refl
-
--- it is an arrangement again
-pub onward-arranged : (A : Arrangement) → A .p < lastPosition → Arranged A → Arranged (movedOn A)
-onward-arranged A h g = record {
-  lawful = record {
-    limit-N = g .lawful .limit-N;
-    limit-Z = g .lawful .limit-Z;
-    last = omega arith;
-    few = g .lawful .few;
-    rising = g .lawful .rising;
-    positions = λ e m. let x = g .lawful .positions e m in (x .0, omega arith);
-    payloads = g .lawful .payloads;
-  };
-  shape = g .shape;
-  below = g .below;
-  distinct = g .distinct;
-  all = g .all;
-}

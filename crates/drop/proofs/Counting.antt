@@ -14,15 +14,16 @@ use Rattle.rules.specs.Lists.{keep}
 use Rattle.rules.specs.Tree.{entries, oldest}
 use Rattle.rules.proofs.Tests.{keep-append}
 use Rattle.pool.specs.Plan.{Plan, node, treeIn, number, numbers, rootNode, noNode}
+use Rattle.pool.specs.Subtree.{heightOf}
 use Rattle.pool.specs.Image.{Arrangement, Image, Fit, stateOf, treeOr, rootOr}
-use Rattle.pool.specs.Times.{times}
-use Rattle.pool.proofs.Numbers.{times-append, below-mem}
+use Rattle.pool.proofs.Numbers.{times-append, below-part, below-mem}
 use Rattle.pool.proofs.Frame.{root-holds, root-in}
+use Rattle.pool.proofs.Words.{root-height, root-oldest}
 use Rattle.drop.specs.Old.{old}
-use Rattle.drop.specs.Spot.{top, StandsBelow, Standing, UpTo, Counted}
+use Rattle.drop.specs.Spot.{StandsBelow, Standing, UpTo, Counted}
 use Rattle.drop.proofs.Olds.{live-stays, tombstone-old, none-old, old-few}
-use Rattle.drop.proofs.Fitting.{below-part, image-stands}
-use Rattle.drop.proofs.Roots.{IsInner, root-oldest, root-height, as-tombstone, as-live, as-inner}
+use Rattle.drop.proofs.Fitting.{image-stands}
+use Rattle.drop.proofs.Roots.{IsInner, as-tombstone, as-live, as-inner}
 
 -- A NODE OF THE TREE
 
@@ -129,7 +130,7 @@ module _ (m : List ℕ) (i limit : ℕ) (x : Node) (a : x ≡ nodeAt m i) where
         let o = opened (g .count) (g .tree) (g .at) (g .stands) in
         let s = stands-left m (g .count) i (o .height) (o .low) (o .left) (o .right) (o .stands) in
         let at : number (o .left) ≡ x .left = ap (λ (y : Node). y .left) (sym (o .word)) in
-        let lower : nodeAt m (x .left) .height ≡ top (treeIn (o .left)) = ap (λ (j : ℕ). nodeAt m j .height) (sym at) ∙ ap (λ (y : Node). y .height) (root-holds (o .left) m (s .holds)) ∙ root-height (o .left) in
+        let lower : nodeAt m (x .left) .height ≡ heightOf (treeIn (o .left)) = ap (λ (j : ℕ). nodeAt m j .height) (sym at) ∙ ap (λ (y : Node). y .height) (root-holds (o .left) m (s .holds)) ∙ root-height (o .left) in
         let high : nodeAt m i .height ≡ o .height = ap (λ (y : Node). y .height) (sym a ∙ o .word) in
         (omega (arith, o .stands .falling .0), record { count = g .count; tree = o .left; at = at; stands = s })
 
@@ -139,7 +140,7 @@ module _ (m : List ℕ) (i limit : ℕ) (x : Node) (a : x ≡ nodeAt m i) where
         let o = opened (g .count) (g .tree) (g .at) (g .stands) in
         let s = stands-right m (g .count) i (o .height) (o .low) (o .left) (o .right) (o .stands) in
         let at : number (o .right) ≡ x .right = ap (λ (y : Node). y .right) (sym (o .word)) in
-        let lower : nodeAt m (x .right) .height ≡ top (treeIn (o .right)) = ap (λ (j : ℕ). nodeAt m j .height) (sym at) ∙ ap (λ (y : Node). y .height) (root-holds (o .right) m (s .holds)) ∙ root-height (o .right) in
+        let lower : nodeAt m (x .right) .height ≡ heightOf (treeIn (o .right)) = ap (λ (j : ℕ). nodeAt m j .height) (sym at) ∙ ap (λ (y : Node). y .height) (root-holds (o .right) m (s .holds)) ∙ root-height (o .right) in
         let high : nodeAt m i .height ≡ o .height = ap (λ (y : Node). y .height) (sym a ∙ o .word) in
         (omega (arith, o .stands .falling .1), record { count = g .count; tree = o .right; at = at; stands = s })
 

@@ -1,6 +1,6 @@
 -- The drop at an inner node, once both children had their turn: a side has gone and the node goes too, or the node stays above what is left.
 -- Assumes nothing.
-use Prim.Native.Nat.{ℕ, _+_, _≤_, _<_}
+use Prim.Native.Nat.{ℕ, _+_, _^_, _≤_, _<_}
 use native.Mathlib.Omega.{arith}
 use mathlib.Core.Path.{_≡_, refl, sym, ap, subst, subst⁻¹, subst₂, _∙_}
 use mathlib.Core.Logic.{_≢_}
@@ -9,18 +9,21 @@ use mathlib.Core.Option.{Option, none, some}
 use lib.ListN.{length}
 use Rattle.nodes.specs.declared.node.Node.{Node}
 use Rattle.nodes.specs.Nodes.{base, putNode}
+use Rattle.nodes.specs.Mended.{mended}
 use Rattle.nodes.specs.Laws.{bytes-node, node-fits}
 use Rattle.pool.specs.Plan.{Plan, node, number, numbers, noNode, freeNode}
 use Rattle.pool.specs.Image.{HoldsTree, numbersOr, rootOr}
 use Rattle.pool.specs.Times.{times}
 use Rattle.pool.proofs.Numbers.{times-same, times-below, mem-times}
 use Rattle.pool.specs.Frame.{Frame}
-use Rattle.pool.proofs.Frame.{frame-put, frame-widen, frame-then, frame-node, root-in}
+use Rattle.pool.proofs.Frame.{frame-put, frame-widen, frame-then, frame-node, tree-frame, root-in}
+use Rattle.pool.proofs.Words.{mended-holds}
+use Rattle.pool.proofs.Headers.{first-small}
 use Rattle.drop.specs.Old.{old}
 use Rattle.drop.specs.Drop.{joinPlan, joinFree, dropPlan, freed}
-use Rattle.drop.specs.Spot.{mended, Spot, Dropped}
+use Rattle.drop.specs.Spot.{Spot, Dropped}
 use Rattle.drop.proofs.Plans.{drop-times, drop-length, left-mem}
-use Rattle.drop.proofs.Moves.{first-small, tree-frame, put-tree, put-free, push-free, mended-holds}
+use Rattle.drop.proofs.Moves.{put-tree, put-free, push-free}
 use Rattle.drop.proofs.Spots.{tree-below, counts, nodes-in, below-all, apart}
 
 module _ (m : List ℕ) (n i h low : ℕ) (l r : Plan) (F : List ℕ) (q : Spot m n (node i h low l r) F) (limit : ℕ) (m1 : List ℕ) (r1 f1 k1 : ℕ)
@@ -74,12 +77,12 @@ module _ (m : List ℕ) (n i h low : ℕ) (l r : Plan) (F : List ℕ) (q : Spot 
   k2-small = omega (arith, d2 .rank-is, drop-length limit r (freed limit l F), drop-length limit l F, nodes-in m n i h low l r F q)
 
   -- the first free node's number fits a word
-  f2-small : f2 < 4294967296
-  f2-small = subst⁻¹ (λ (j : ℕ). j < 4294967296) (d2 .first-is)
+  f2-small : f2 < 2 ^ 32
+  f2-small = subst⁻¹ (λ (j : ℕ). j < 2 ^ 32) (d2 .first-is)
       (first-small n all-free (q .small) (times-below n all-free (λ j g. omega (arith, free-counts j, none-beyond j g))))
 
   -- node i can be freed
-  pub free-asks : (base i + 32 ≤ length m2) × (k2 < 4294967295)
+  pub free-asks : (base i + 32 ≤ length m2) × (k2 + 1 < 2 ^ 32)
   free-asks = (room-after i-below, omega (arith, k2-small, q .small))
 
   -- a side has gone: node i goes too, and what is left is the other side
@@ -145,10 +148,10 @@ module _ (m : List ℕ) (n i h low : ℕ) (l r : Plan) (F : List ℕ) (q : Spot 
     unfolding dropPlan freed mended
     stay =
         let fits = node-fits m i (q .bytes) in
-        let hs : h < 4294967296 = subst (λ (x : Node). x .height < 4294967296) (q .holds .0) (fits .0) in
-        let ls : low < 4294967296 = subst (λ (x : Node). x .low < 4294967296) (q .holds .0) (fits .1 .0) in
-        let us : number U < 4294967296 = omega (arith, root-below l left-below U a, q .small) in
-        let ws : number W < 4294967296 = omega (arith, root-below r right-below W b, q .small) in
+        let hs : h < 2 ^ 32 = subst (λ (x : Node). x .height < 2 ^ 32) (q .holds .0) (fits .0) in
+        let ls : low < 2 ^ 32 = subst (λ (x : Node). x .low < 2 ^ 32) (q .holds .0) (fits .1 .0) in
+        let us : number U < 2 ^ 32 = omega (arith, root-below l left-below U a, q .small) in
+        let ws : number W < 2 ^ 32 = omega (arith, root-below r right-below W b, q .small) in
         record {
           holds = rw (a, b) (mended-holds m2 i h low U W (room-after i-below) (d2 .bytes)
               (subst (λ (X : Option Plan). HoldsTree m2 X) a left-holds) (subst (λ (X : Option Plan). HoldsTree m2 X) b (d2 .holds)) hs ls us ws

@@ -2,29 +2,23 @@
 -- Assumes nothing.
 use Prim.Native.Nat.{ℕ, _+_, _*_, _≤_}
 use native.Mathlib.Omega.{arith}
-use mathlib.Core.Path.{_≡_, ap, subst, subst⁻¹}
+use mathlib.Core.Path.{_≡_, subst, subst⁻¹}
 use mathlib.Core.List.{List, _++_}
 use mathlib.Core.Option.{Option, some}
 use lib.ListN.{length}
-use Rattle.rules.specs.Tree.{Tree, treeOf, entries}
+use Rattle.rules.specs.Tree.{Tree, entries}
 use Rattle.rules.specs.Shape.{Canonical, none as nothing, one, two, on-left, on-right}
 use Rattle.rules.proofs.Trees.{treeOf-canonical}
-use Rattle.pool.specs.Plan.{Plan, node, number, numbers}
+use Rattle.pool.specs.Plan.{Plan, numbers}
+use Rattle.pool.specs.Subtree.{heightOf}
 use Rattle.pool.specs.Image.{Arrangement, Arranged, Image, AllBelow, Distinct, HoldsTree, treeOr, numbersOr}
-use Rattle.pool.specs.Times.{times}
-use Rattle.pool.proofs.Numbers.{times-append, below-times, times-below}
-use Rattle.drop.specs.Spot.{top, Falling, StandsBelow, Spot}
-
--- PARTS OF A LIST OF NUMBERS
-
--- a list that has no number more often is below what the other is below, and distinct with it
-pub below-part : (n : ℕ) (xs ys : List ℕ) → ((j : ℕ) → times j ys ≤ times j xs) → AllBelow n xs → AllBelow n ys
-below-part n xs ys f b = times-below n ys (λ j h. omega (arith, f j, below-times n xs b j h))
+use Rattle.pool.proofs.Numbers.{times-append, below-part}
+use Rattle.drop.specs.Spot.{Falling, StandsBelow, Spot}
 
 -- HEIGHTS FALL
 
 -- a tree of the rules' shape has falling heights
-canonical-falling : {h low : ℕ} {t : Tree} → Canonical h low t → (top t ≤ h) × Falling t
+canonical-falling : {h low : ℕ} {t : Tree} → Canonical h low t → (heightOf t ≤ h) × Falling t
 canonical-falling {h} nothing = (omega arith, tt)
 canonical-falling {h} (one a b) = (omega arith, tt)
 canonical-falling (two {h = h} {l = l} {r = r} a b f g) =

@@ -8,5 +8,4 @@ pub mod Moves
 pub mod Spots
 pub mod Dropping
 pub mod Places
-pub mod Headers
 pub mod Whole

@@ -11,9 +11,9 @@ use lib.Dec.{T, ltb, leb, ltb→lt, leb→le, le→leb, not-T, T-not}
 use lib.ListN.{length, length-append}
 use Rattle.words.specs.Choice.{if_then_else_}
 use Rattle.rules.specs.Lists.{keep}
-use Rattle.rules.specs.State.{Entry, isLive, lastPosition}
+use Rattle.rules.specs.State.{Entry, isLive}
 use Rattle.rules.specs.Verdict.{young}
-use Rattle.rules.specs.Tree.{Tree, empty, leaf, node, entries, oldest}
+use Rattle.rules.specs.Tree.{Tree, empty, leaf, node, entries, oldest, noTombstone}
 use Rattle.rules.proofs.Tests.{same, test, is-true, no-le, yes-lt, keep-append, le-or-lt}
 use Rattle.drop.specs.Old.{old, stays}
 
@@ -88,7 +88,7 @@ pub leaf-young : (limit : ℕ) (e : Entry) → limit < oldest (leaf e) → old l
 unfolding old oldest
 leaf-young limit e h = go (isLive (e .payload)) h
   where
-    go : (b : Bool) → limit < (if b then lastPosition else e .position) → not b && leb (e .position) limit ≡ false
+    go : (b : Bool) → limit < (if b then noTombstone else e .position) → not b && leb (e .position) limit ≡ false
     go true l = refl
     go false l = no-le l
 

@@ -1,6 +1,6 @@
 -- What the places of `drop_below` ask, from what its calls ensure.
 -- Assumes nothing.
-use Prim.Native.Nat.{ℕ, _+_, _≤_, _<_}
+use Prim.Native.Nat.{ℕ, _+_, _^_, _≤_, _<_}
 use native.Mathlib.Omega.{arith}
 use mathlib.Core.Path.{_≡_, sym, ap, subst, _∙_}
 use mathlib.Core.Logic.{_≢_}
@@ -9,16 +9,19 @@ use mathlib.Core.Option.{none, some}
 use lib.ListN.{length}
 use Rattle.nodes.specs.declared.node.Node.{Node}
 use Rattle.nodes.specs.Nodes.{base, nodeAt, putNode}
+use Rattle.nodes.specs.Mended.{mended}
 use Rattle.rules.specs.Tree.{oldest}
 use Rattle.pool.specs.Plan.{Plan, leaf, node, treeIn, number, rootNode, noNode, freeNode}
+use Rattle.pool.specs.Subtree.{heightOf}
 use Rattle.pool.specs.Image.{firstOf}
 use Rattle.pool.proofs.Frame.{root-holds, root-in}
+use Rattle.pool.proofs.Words.{root-height, root-oldest}
 use Rattle.drop.specs.Old.{old}
 use Rattle.drop.specs.Drop.{dropPlan, freed}
-use Rattle.drop.specs.Spot.{top, mended, FreedNode, Rooms, Spot, DropReady, Dropped, Drops}
+use Rattle.drop.specs.Spot.{FreedNode, Spot, DropReady, Dropped, Drops}
 use Rattle.drop.proofs.Olds.{live-stays, tombstone-old}
 use Rattle.drop.proofs.Plans.{drop-none, freed-none}
-use Rattle.drop.proofs.Roots.{root-oldest, root-height, as-tombstone, as-live, as-inner}
+use Rattle.drop.proofs.Roots.{as-tombstone, as-live, as-inner}
 use Rattle.drop.proofs.Spots.{tree-room, fits-in, drop-same, drop-leaf, left-spot, right-spot}
 use Rattle.drop.proofs.Dropping.{free-asks, left-gone, right-gone, mend-asks, both-stay}
 
@@ -27,7 +30,7 @@ pub ready-room : (m : List ℕ) (i f k : ℕ) → DropReady m i f k → base i +
 ready-room m i f k g = subst (λ (j : ℕ). base j + 32 ≤ length m) (g .at) (tree-room (g .spot) (root-in (g .tree)))
 
 -- and can be freed
-pub ready-asks : (m : List ℕ) (i f k : ℕ) → DropReady m i f k → (base i + 32 ≤ length m) × (k < 4294967295)
+pub ready-asks : (m : List ℕ) (i f k : ℕ) → DropReady m i f k → (base i + 32 ≤ length m) × (k + 1 < 2 ^ 32)
 ready-asks m i f k g = (ready-room m i f k g, omega (arith, g .rank, fits-in (g .spot), g .spot .small))
 
 -- node i was freed last
@@ -96,10 +99,10 @@ module _ (m : List ℕ) (i limit f k : ℕ) (x : Node) (a : x ≡ nodeAt m i) wh
         }
 
     -- a side is lower than the node
-    falls : {n : ℕ} {T : Plan} {F : List ℕ} (o : Opened n T F) (S : Plan) (m′ : List ℕ) (j t : ℕ) → nodeAt m i .height ≡ t → top (treeIn S) < o .height
+    falls : {n : ℕ} {T : Plan} {F : List ℕ} (o : Opened n T F) (S : Plan) (m′ : List ℕ) (j t : ℕ) → nodeAt m i .height ≡ t → heightOf (treeIn S) < o .height
         → number S ≡ j → nodeAt m′ (number S) ≡ rootNode S → nodeAt m′ j .height < t
     falls o S m′ j t u l e b =
-        let lower : nodeAt m′ j .height ≡ top (treeIn S) = ap (λ (j : ℕ). nodeAt m′ j .height) (sym e) ∙ ap (λ (y : Node). y .height) b ∙ root-height S in
+        let lower : nodeAt m′ j .height ≡ heightOf (treeIn S) = ap (λ (j : ℕ). nodeAt m′ j .height) (sym e) ∙ ap (λ (y : Node). y .height) b ∙ root-height S in
         let high : nodeAt m i .height ≡ o .height = ap (λ (y : Node). y .height) (sym a ∙ o .word) in
         omega arith
 
@@ -139,17 +142,16 @@ module _ (m : List ℕ) (i limit f k : ℕ) (x : Node) (a : x ≡ nodeAt m i) wh
             (right-spot m n i (o .height) (o .low) (o .left) (o .right) F (o .spot) limit m1 r1 f1 k1 d)
 
         -- node i can be freed
-        pub asks-free : DropReady m i f k → (base i + 32 ≤ length m2) × (k2 < 4294967295)
+        pub asks-free : DropReady m i f k → (base i + 32 ≤ length m2) × (k2 + 1 < 2 ^ 32)
         asks-free g =
             let o = opened (g .count) (g .tree) (g .list) (g .at) (g .spot) in
             free-asks m (g .count) i (o .height) (o .low) (o .left) (o .right) (g .list) (o .spot) limit m1 r1 f1 k1 (one o (g .first) (g .rank)) m2 r2 f2 k2 (two o (g .first) (g .rank))
 
         -- node i can be mended
-        pub asks-mend : DropReady m i f k → r1 ≢ noNode → r2 ≢ noNode → Rooms m2 i r1 r2
+        pub asks-mend : DropReady m i f k → r1 ≢ noNode → r2 ≢ noNode → (base i + 32 ≤ length m2) × (base r1 + 32 ≤ length m2) × (base r2 + 32 ≤ length m2)
         asks-mend g y v =
             let o = opened (g .count) (g .tree) (g .list) (g .at) (g .spot) in
-            let s = mend-asks m (g .count) i (o .height) (o .low) (o .left) (o .right) (g .list) (o .spot) limit m1 r1 f1 k1 (one o (g .first) (g .rank)) m2 r2 f2 k2 (two o (g .first) (g .rank)) y v in
-            record { node-room = s .0; left-room = s .1; right-room = s .2 }
+            mend-asks m (g .count) i (o .height) (o .low) (o .left) (o .right) (g .list) (o .spot) limit m1 r1 f1 k1 (one o (g .first) (g .rank)) m2 r2 f2 k2 (two o (g .first) (g .rank)) y v
 
         -- the left side has gone
         pub drop-left : r1 ≡ noNode → (m′ : List ℕ) (r′ f′ k′ : ℕ) → FreedNode m2 i r2 f2 k2 m′ r′ f′ k′ → Drops m i limit f k m′ r′ f′ k′

@@ -1,4 +1,4 @@
--- What a root's words tell: newest, oldest and height of the tree, and whether it is a tombstone, a live key or an inner node.
+-- What a root's kind tells: whether it is a tombstone, a live key or an inner node.
 -- Assumes nothing.
 use Prim.Native.Nat.{ℕ}
 use native.Mathlib.Omega.{arith}
@@ -7,38 +7,7 @@ use mathlib.Core.Logic.{_≢_}
 use mathlib.Core.Bool.{Bool, true, false}
 use mathlib.Core.Option.{Option, none, some}
 use Rattle.rules.specs.State.{Entry, isLive}
-use Rattle.rules.specs.Tree.{Tree, newest, oldest}
-use Rattle.pool.specs.Plan.{Plan, leaf, node, treeIn, number, leafNode, rootNode}
-use Rattle.drop.specs.Spot.{top}
-
--- the root's newest is the tree's
-pub root-newest : (T : Plan) → rootNode T .newest ≡ newest (treeIn T)
-unfolding newest
-root-newest (leaf i e) = go (e .key) (e .position) (e .payload)
-  where
-    go : (k w : ℕ) (x : Option ℕ) → leafNode k w x .newest ≡ w
-    go k w none = refl
-    go k w (some x) = refl
-root-newest (node i h low l r) = refl
-
--- the root's oldest is the tree's
-pub root-oldest : (T : Plan) → rootNode T .oldest ≡ oldest (treeIn T)
-unfolding oldest
-root-oldest (leaf i e) = go e (e .payload) refl
-  where
-    go : (e : Entry) (x : Option ℕ) → e .payload ≡ x → leafNode (e .key) (e .position) (e .payload) .oldest ≡ oldest (Tree.leaf e)
-    go e none q = rw q
-    go e (some x) q = rw q
-root-oldest (node i h low l r) = refl
-
--- the root's height is the tree's
-pub root-height : (T : Plan) → rootNode T .height ≡ top (treeIn T)
-root-height (leaf i e) = go (e .key) (e .position) (e .payload)
-  where
-    go : (k w : ℕ) (x : Option ℕ) → leafNode k w x .height ≡ 0
-    go k w none = refl
-    go k w (some x) = refl
-root-height (node i h low l r) = refl
+use Rattle.pool.specs.Plan.{Plan, leaf, node, number, leafNode, rootNode}
 
 -- THE THREE KINDS
 

@@ -1,6 +1,6 @@
 -- What the recursion of the drop starts from: facts of the numbers, a tree in which nothing is old, an old leaf, and each child's turn.
 -- Assumes nothing.
-use Prim.Native.Nat.{ℕ, suc, _+_, _≤_, _<_}
+use Prim.Native.Nat.{ℕ, suc, _+_, _^_, _≤_, _<_}
 use native.Mathlib.Omega.{arith}
 use mathlib.Core.Path.{_≡_, refl, sym, ap, subst, subst⁻¹, _∙_}
 use mathlib.Core.Logic.{_≢_}
@@ -15,14 +15,14 @@ use Rattle.rules.specs.State.{Entry}
 use Rattle.pool.specs.Plan.{Plan, leaf, node, number, numbers, noNode, freeNode}
 use Rattle.pool.specs.Image.{AllBelow, HoldsTree, HoldsFree, firstOf, rootOr}
 use Rattle.pool.specs.Times.{times}
-use Rattle.pool.proofs.Numbers.{times-append, times-same, distinct-times, times-distinct, below-times, times-below, mem-times, below-mem}
+use Rattle.pool.proofs.Numbers.{times-append, times-same, distinct-times, times-distinct, below-times, times-below, below-part, mem-times, below-mem}
 use Rattle.pool.proofs.Frame.{frame-none, frame-put, frame-widen, frame-node, holds-frame}
+use Rattle.pool.proofs.Headers.{first-small}
 use Rattle.drop.specs.Old.{old}
 use Rattle.drop.specs.Drop.{dropPlan, freed}
 use Rattle.drop.specs.Spot.{Spot, Dropped}
 use Rattle.drop.proofs.Plans.{drop-times, drop-length}
-use Rattle.drop.proofs.Fitting.{below-part}
-use Rattle.drop.proofs.Moves.{first-small, push-free}
+use Rattle.drop.proofs.Moves.{push-free}
 
 -- WHAT A SPOT SAYS OF NUMBERS
 
@@ -48,7 +48,7 @@ module _ {m : List ℕ} {n : ℕ} {T : Plan} {F : List ℕ} (q : Spot m n T F) w
   free-below = below-part n (numbers T ++ F) F (λ j. omega (arith, times-append j (numbers T) F)) (q .below)
 
   -- the first of them fits a word
-  pub free-small : firstOf F < 4294967296
+  pub free-small : firstOf F < 2 ^ 32
   free-small = first-small n F (q .small) free-below
 
 -- NOTHING IS OLD
@@ -75,7 +75,7 @@ unfolding dropPlan freed
 drop-leaf {m} {n} {i} {e} {F} limit f k q first rank o = record {
   holds = rw o tt;
   root-is = rw o;
-  free = rw o (push-free m i f k F (tree-room q (here refl)) (sym first) (sym rank) (subst (λ (j : ℕ). j < 4294967296) first (free-small q)) (omega (arith, fits-in q, q .small)) (q .free)
+  free = rw o (push-free m i f k F (tree-room q (here refl)) (sym first) (sym rank) (subst (λ (j : ℕ). j < 2 ^ 32) first (free-small q)) (omega (arith, fits-in q, q .small)) (q .free)
       (λ s. omega (arith, once q i, mem-times s, times-same i [])));
   first-is = rw o;
   rank-is = rw o (omega arith);

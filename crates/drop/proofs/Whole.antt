@@ -1,4 +1,4 @@
--- What the places of `drop_old` and `advance` ask, from what is known there.
+-- What the places of `drop_old` ask, from what is known there.
 -- Assumes nothing.
 use Prim.Native.Nat.{ℕ, _+_, _-_, _*_, _/_, _≤_, _<_}
 use native.Mathlib.Omega.{arith}
@@ -10,18 +10,17 @@ use lib.ListN.{length, length-append}
 use Rattle.nodes.specs.declared.node.Node.{Node}
 use Rattle.nodes.specs.declared.header.Header.{Header}
 use Rattle.nodes.specs.Nodes.{base, nodeAt, headerAt, putHeader}
-use Rattle.rules.specs.State.{lastPosition}
 use Rattle.rules.specs.Tree.{entries}
 use Rattle.pool.specs.Plan.{Plan, number, numbers, noNode}
 use Rattle.pool.specs.Image.{Arrangement, Image, Fit, HoldsTree, HoldsFree, firstOf, treeOr, rootOr, numbersOr, headerOf, AllBelow}
 use Rattle.pool.proofs.Numbers.{below-mem}
 use Rattle.pool.proofs.Frame.{frame-front, root-in}
-use Rattle.drop.specs.Drop.{dropPlan, dropTree, freed, freedTree, dropIn, movedOn, PositionsLeft}
+use Rattle.pool.proofs.Headers.{keys-beside, free-left, free-below, image-of}
+use Rattle.drop.specs.Drop.{dropPlan, dropTree, freed, freedTree, dropIn}
 use Rattle.drop.specs.Spot.{Spot, DropReady, Dropped, Drops}
 use Rattle.drop.proofs.Plans.{drop-length}
-use Rattle.drop.proofs.Arranging.{drop-arranged, onward-arranged}
+use Rattle.drop.proofs.Arranging.{drop-arranged}
 use Rattle.drop.proofs.Fitting.{image-spot}
-use Rattle.drop.proofs.Headers.{keys-beside, free-left, free-below, image-of}
 
 -- THE FREE NODES
 
@@ -144,25 +143,3 @@ module _ (m : List ℕ) (limit : ℕ) (h : Header) (e : h ≡ headerAt m) where
             (image-of m1 (dropIn limit A) (drop-arranged limit A (g .arranged)) (u .frame .length-kept ∙ g .size) (u .bytes) (λ k p q. frame-front (u .frame) k q ∙ g .zeros k p q)
             (subst (λ (X : Option Plan). HoldsTree m1 (dropTree limit X)) (sym (o .is)) (u .holds))
             (subst (λ (X : Option Plan). HoldsFree m1 (freedTree limit X (A .free))) (sym (o .is)) (u .free)))
-        -- ONE POSITION ON
-
-module _ (m : List ℕ) (h : Header) (e : h ≡ headerAt m) (g : PositionsLeft m) where
-  -- the position read is the arrangement's
-  position-is : (A : Arrangement) → Image m A → h .position ≡ A .p
-  position-is A i = ap (λ (x : Header). x .position) (e ∙ i .header)
-
-  -- the next position fits a word
-  pub position-left : h .position + 1 < 4294967296
-  position-left = omega (arith, position-is (g .arrangement) (g .image), g .more)
-
-  -- the bytes are the image of the arrangement one position on
-  pub advance-whole : (m1 : List ℕ) → m1 ≡ putHeader m (record { mark = h .mark; limit = h .limit; zone = h .zone; position = h .position + 1; kept = h .kept; root = h .root; free = h .free })
-      → (A : Arrangement) → Image m A → Image m1 (movedOn A)
-  advance-whole m1 w A i =
-      let s : A .p < lastPosition = omega (arith, position-is A i, position-is (g .arrangement) (g .image), g .more) in
-      let k : record { mark = h .mark; limit = h .limit; zone = h .zone; position = h .position + 1; kept = h .kept; root = h .root; free = h .free } ≡ headerOf (movedOn A) =
-      ap moved (e ∙ i .header) in
-      rw (w, k) (image-of m (movedOn A) (onward-arranged A s (i .arranged)) (i .size) (i .bytes) (i .zeros) (i .tree) (i .free))
-    where
-      moved : Header → Header
-      moved x = record { mark = x .mark; limit = x .limit; zone = x .zone; position = x .position + 1; kept = x .kept; root = x .root; free = x .free }

@@ -1,12 +1,11 @@
 -- The drop of old tombstones in an arrangement: which nodes the tree has then, and in which order the others join the free nodes.
 -- Assumes nothing: these are definitions.
-use Prim.Native.Nat.{ℕ, _+_, _<_}
+use Prim.Native.Nat.{ℕ}
 use mathlib.Core.List.{List, _∷_}
 use mathlib.Core.Option.{Option, none, some}
 use Rattle.words.specs.Choice.{if_then_else_}
-use Rattle.rules.specs.State.{lastPosition}
 use Rattle.pool.specs.Plan.{Plan, leaf, node}
-use Rattle.pool.specs.Image.{Arrangement, Image}
+use Rattle.pool.specs.Image.{Arrangement}
 use Rattle.drop.specs.Old.{old}
 
 -- an inner node with one side gone gives way to the other side
@@ -50,20 +49,3 @@ dropIn limit A =
       tree = dropTree limit (A .tree);
       free = freedTree limit (A .tree) (A .free);
     }
-
--- the arrangement one position on
-abbrev pub movedOn : Arrangement → Arrangement
-movedOn A =
-    record {
-      N = A .N;
-      Z = A .Z;
-      p = A .p + 1;
-      tree = A .tree;
-      free = A .free;
-    }
-
--- a fit pool whose positions are not used up
-pub record PositionsLeft (m : List ℕ) : Type 0 where
-  pub arrangement : Arrangement
-  pub image : Image m arrangement
-  pub more : arrangement .p < lastPosition

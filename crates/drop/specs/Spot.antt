@@ -1,30 +1,25 @@
 -- What the recursions over a tree in the bytes start from, and what they leave behind.
 -- Assumes nothing: these are definitions.
-use Prim.Native.Nat.{ℕ, _+_, _≤_, _<_, max, min}
+use Prim.Native.Nat.{ℕ, _+_, _≤_, _<_}
 use mathlib.Core.Path.{_≡_}
 use mathlib.Core.List.{List, _++_, List·Memᴰ as Mem}
 use lib.ListN.{length}
 use Rattle.words.specs.Word.{Bytes}
-use Rattle.nodes.specs.Nodes.{base, nodeAt, putNode}
+use Rattle.nodes.specs.Nodes.{base, putNode}
 use Rattle.rules.specs.Tree.{Tree, empty, entries}
 use Rattle.rules.specs.Lists.{keep}
-use Rattle.pool.specs.Plan.{Plan, treeIn, number, numbers, innerNode, freeNode}
+use Rattle.pool.specs.Plan.{Plan, treeIn, number, numbers, freeNode}
+use Rattle.pool.specs.Subtree.{heightOf}
 use Rattle.pool.specs.Image.{Distinct, AllBelow, Holds, HoldsTree, HoldsFree, firstOf, rootOr}
 use Rattle.pool.specs.Frame.{Frame}
 use Rattle.drop.specs.Old.{old}
 use Rattle.drop.specs.Drop.{dropPlan, freed}
 
--- a tree's height: 0 at a leaf
-abbrev pub top : Tree → ℕ
-top empty = 0
-top (Tree.leaf e) = 0
-top (Tree.node h low l r) = h
-
 -- heights fall from each node to its subtrees
 abbrev pub Falling : Tree → Type 0
 Falling empty = Unit
 Falling (Tree.leaf e) = Unit
-Falling (Tree.node h low l r) = (top l < h) × (top r < h) × Falling l × Falling r
+Falling (Tree.node h low l r) = (heightOf l < h) × (heightOf r < h) × Falling l × Falling r
 
 -- the bytes hold a tree whose numbers are below n
 pub record StandsBelow (m : List ℕ) (n : ℕ) (T : Plan) : Type 0 where
@@ -58,18 +53,6 @@ pub record FreedNode (m : List ℕ) (i root f k : ℕ) (m′ : List ℕ) (root�
   pub root-is : root′ ≡ root
   pub first-is : f′ ≡ i
   pub rank-is : k′ ≡ k + 1
-
--- three nodes lie in the bytes
-pub record Rooms (m : List ℕ) (i left right : ℕ) : Type 0 where
-  pub node-room : base i + 32 ≤ length m
-  pub left-room : base left + 32 ≤ length m
-  pub right-room : base right + 32 ≤ length m
-
--- the bytes with node i above the nodes left and right, their newest and oldest carried up
-unfoldable pub mended : List ℕ → ℕ → ℕ → ℕ → ℕ → ℕ → List ℕ
-mended m i h low left right =
-    putNode m i
-    (innerNode h low (max (nodeAt m left .newest) (nodeAt m right .newest)) (min (nodeAt m left .oldest) (nodeAt m right .oldest)) left right)
 
 -- the bytes hold a tree and free nodes, apart from each other
 pub record Spot (m : List ℕ) (n : ℕ) (T : Plan) (F : List ℕ) : Type 0 where

@@ -1,4 +1,5 @@
 // How many kept tombstones are old, up to a number that is enough. Only subtrees that hold one are entered, and none once there are enough.
+use nodes::NO_NODE;
 use nodes::read_header;
 use nodes::read_node;
 ghost use mathlib.Core.Path.{_≡_};
@@ -39,7 +40,7 @@ pub fn count_old(pool: &[u8], limit: u32, most: u32) -> u32
     ensures { λ r. ⌜ ((A : Arrangement) → Image (now (pool .entry)) A → UpTo most (length (keep (old limit) (stateOf A .kept))) r) ⌝ }
 {
     let h = read_header(pool);
-    if h.root == 4294967295 {
+    if h.root == NO_NODE {
         return 0;
     }
     count_below(pool, h.root, limit, most)

@@ -1,22 +1,25 @@
 // Old tombstones are dropped in place. Only subtrees that hold one are entered; a node that is left with one child gives way to it;
 // nodes that are no longer needed come to the front of the free nodes.
+use nodes::FREE;
 use nodes::Header;
+use nodes::NO_NODE;
 use nodes::Node;
+use nodes::mend;
 use nodes::read_header;
 use nodes::read_node;
 use nodes::write_header;
 use nodes::write_node;
 ghost use mathlib.Core.Path.{_≡_};
-ghost use Prim.Native.Nat.{_+_, _-_, _*_, _/_, _≤_, _<_, max, min};
+ghost use Prim.Native.Nat.{_+_, _-_, _*_, _/_, _^_, _≤_, _<_};
 ghost use lib.ListN.{length};
 ghost use Rattle.nodes.specs.Nodes.{base};
 ghost use Rattle.pool.specs.Image.{Arrangement, Image, Fit};
 ghost use Rattle.drop.specs.Drop.{dropIn};
-ghost use Rattle.drop.specs.Spot.{FreedNode, Rooms, mended, DropReady, Drops};
+ghost use Rattle.drop.specs.Spot.{FreedNode, DropReady, Drops};
 
 // What is left of a tree, and the free nodes then.
 struct Left {
-    // The root's number, 4,294,967,295 if nothing is left.
+    // The root's number, NO_NODE if nothing is left.
     root: u32,
     // The first free node.
     free: u32,
@@ -24,23 +27,9 @@ struct Left {
     rank: u32,
 }
 
-// The larger of two numbers.
-fn larger(x: u32, y: u32) -> u32
-    ensures { λ r. ⌜ r ≡ max x y ⌝ }
-{
-    if x < y { y } else { x }
-}
-
-// The smaller of two numbers.
-fn smaller(x: u32, y: u32) -> u32
-    ensures { λ r. ⌜ r ≡ min x y ⌝ }
-{
-    if x < y { x } else { y }
-}
-
 // Node i comes to the front of the free nodes; root is what is left of the tree.
 fn free_node(pool: &mut [u8], i: u32, root: u32, free: u32, rank: u32) -> Left
-    requires { ⌜ (base i + 32 ≤ length (now pool)) × (rank < 4294967295) ⌝ }
+    requires { ⌜ (base i + 32 ≤ length (now pool)) × (rank + 1 < 2 ^ 32) ⌝ }
     ensures { λ r. ⌜ FreedNode (now (pool .entry)) i root free rank (now (pool .exit)) (r .root) (r .free) (r .rank) ⌝ }
 {
     let more = rank + 1;
@@ -48,7 +37,7 @@ fn free_node(pool: &mut [u8], i: u32, root: u32, free: u32, rank: u32) -> Left
         pool,
         i,
         Node {
-            height: 4294967295,
+            height: FREE,
             low: free,
             newest: more,
             oldest: 0,
@@ -63,29 +52,6 @@ fn free_node(pool: &mut [u8], i: u32, root: u32, free: u32, rank: u32) -> Left
         free: i,
         rank: more,
     }
-}
-
-// Node i stands above its children, with their newest and oldest.
-fn mend(pool: &mut [u8], i: u32, height: u32, low: u32, left: u32, right: u32)
-    requires { ⌜ Rooms (now pool) i left right ⌝ }
-    ensures { λ _. ⌜ now (pool .exit) ≡ mended (now (pool .entry)) i height low left right ⌝ }
-{
-    let a = read_node(pool, left);
-    let b = read_node(pool, right);
-    write_node(
-        pool,
-        i,
-        Node {
-            height: height,
-            low: low,
-            newest: larger(a.newest, b.newest),
-            oldest: smaller(a.oldest, b.oldest),
-            left: left,
-            right: right,
-            kind: 0,
-            spare: 0,
-        },
-    );
 }
 
 // Drops the old tombstones of the tree at node i.
@@ -109,14 +75,14 @@ fn drop_below(pool: &mut [u8], i: u32, limit: u32, free: u32, rank: u32) -> Left
         };
     }
     if n.kind == 2 {
-        return free_node(pool, i, 4294967295, free, rank);
+        return free_node(pool, i, NO_NODE, free, rank);
     }
     let a = drop_below(pool, n.left, limit, free, rank);
     let b = drop_below(pool, n.right, limit, a.free, a.rank);
-    if a.root == 4294967295 {
+    if a.root == NO_NODE {
         return free_node(pool, i, b.root, b.free, b.rank);
     }
-    if b.root == 4294967295 {
+    if b.root == NO_NODE {
         return free_node(pool, i, a.root, b.free, b.rank);
     }
     mend(pool, i, n.height, n.low, a.root, b.root);
@@ -141,7 +107,7 @@ pub fn drop_old(pool: &mut [u8], limit: u32)
     ensures { λ _. ⌜ ((A : Arrangement) → Image (now (pool .entry)) A → Image (now (pool .exit)) (dropIn limit A)) ⌝ }
 {
     let h = read_header(pool);
-    if h.root == 4294967295 {
+    if h.root == NO_NODE {
         return;
     }
     let first = read_node(pool, h.free);

@@ -16,7 +16,8 @@ use Rattle.rules.proofs.Trees.{canonical-rising}
 use Rattle.pool.specs.Plan.{Plan, leaf, node, treeIn, leafNode, noNode}
 use Rattle.pool.specs.Image.{Arrangement, Image, Fit, stateOf}
 use Rattle.pool.specs.Subtree.{StandsAt, Rooted}
-use Rattle.pool.proofs.Subtree.{halved, node-reads, leaf-height, leaf-low, stands-left, stands-right, inner, rooted-spans}
+use Rattle.pool.proofs.Words.{leaf-height, leaf-low}
+use Rattle.pool.proofs.Subtree.{halved, node-reads, stands-left, stands-right, inner, rooted-spans}
 use Rattle.pool.proofs.Root.{no-root, some-root, root-rooted}
 use Rattle.find.specs.declared.Found.{Found}
 use Rattle.find.specs.declared.Found.the-variants.{Absent, Live, Tombstone}

@@ -17,12 +17,13 @@ use Rattle.rules.specs.State.{Entry}
 use Rattle.rules.specs.Tree.{entries, newest, oldest}
 use Rattle.pool.specs.Plan.{Plan, leaf, node, treeIn, number, numbers, leafNode}
 use Rattle.pool.specs.Image.{AllBelow, Holds}
+use Rattle.pool.proofs.Words.{newest-held, oldest-held}
 use Rattle.pool.proofs.Placed.{Placed, at-leaf, at-node, not-higher}
 use Rattle.fit.specs.Check.{leafOk, coverMiddle, coverEnd, both, leavesAt}
 use Rattle.fit.proofs.Tests.{leaf-true}
-use Rattle.fit.proofs.InnerTests.{Inner}
+use Rattle.fit.proofs.InnerTests.{InnerFacts}
 use Rattle.fit.proofs.LeavesLaws.{stepped, both-sum}
-use Rattle.fit.proofs.Sound.{Good, root-newest, root-oldest}
+use Rattle.fit.proofs.Sound.{Good}
 
 -- a leaf's words pass
 leaf-words : (k w from to : ℕ) (o : Option ℕ) → 1 ≤ w → from ≤ k → k < to → (leafNode k w o .height ≡ 0) × (leafOk (leafNode k w o) from to ≡ true)
@@ -51,7 +52,7 @@ root-below n (node i h low l r) b = b .0
 
 module _ (m : List ℕ) (nodes : ℕ) where
   inner-holds : (i h low from to : ℕ) (l r : Plan) → Holds m (node i (suc h) low l r) → AllBelow nodes (numbers (node i (suc h) low l r))
-      → from ≤ low → low + 2 ^ suc h ≤ to → low % 2 ^ suc h ≡ 0 → to ≤ 2 ^ 32 → Inner m nodes i from to
+      → from ≤ low → low + 2 ^ suc h ≤ to → low % 2 ^ suc h ≡ 0 → to ≤ 2 ^ 32 → InnerFacts m nodes i from to
   unfolding newest oldest
   inner-holds i h low from to l r q b lo hi z top =
       let e = q .0 in
@@ -72,8 +73,8 @@ module _ (m : List ℕ) (nodes : ℕ) where
         left-in = omega (arith, dl, root-below nodes l (below-left nodes (numbers l) (numbers r) (b .1)));
         right-in = omega (arith, dr, root-below nodes r (below-right nodes (numbers l) (numbers r) (b .1)));
         sums = record {
-          is-newest = ap (λ (n : Node). n .newest) e ∙ sym (ap₂ max (ap (λ (j : ℕ). nodeAt m j .newest) dl ∙ root-newest m l (q .1)) (ap (λ (j : ℕ). nodeAt m j .newest) dr ∙ root-newest m r (q .2)));
-          is-oldest = ap (λ (n : Node). n .oldest) e ∙ sym (ap₂ min (ap (λ (j : ℕ). nodeAt m j .oldest) dl ∙ root-oldest m l (q .1)) (ap (λ (j : ℕ). nodeAt m j .oldest) dr ∙ root-oldest m r (q .2)));
+          is-newest = ap (λ (n : Node). n .newest) e ∙ sym (ap₂ max (ap (λ (j : ℕ). nodeAt m j .newest) dl ∙ newest-held m l (q .1)) (ap (λ (j : ℕ). nodeAt m j .newest) dr ∙ newest-held m r (q .2)));
+          is-oldest = ap (λ (n : Node). n .oldest) e ∙ sym (ap₂ min (ap (λ (j : ℕ). nodeAt m j .oldest) dl ∙ oldest-held m l (q .1)) (ap (λ (j : ℕ). nodeAt m j .oldest) dr ∙ oldest-held m r (q .2)));
         };
       }
 

@@ -15,10 +15,10 @@ use Rattle.fit.proofs.Tests.{differ}
 use Rattle.fit.proofs.HeadLaws.{Zeros}
 use Rattle.fit.proofs.Means.{fit-checked, whole-sound}
 
-both : {A B : Type 0} → Dec A → Dec B → Dec (A × B)
-both (yes a) (yes b) = yes (a, b)
-both (yes a) (no b) = no (λ p. b (p .1))
-both (no a) d = no (λ p. a (p .0))
+dec-and : {A B : Type 0} → Dec A → Dec B → Dec (A × B)
+dec-and (yes a) (yes b) = yes (a, b)
+dec-and (yes a) (no b) = no (λ p. b (p .1))
+dec-and (no a) d = no (λ p. a (p .0))
 
 is-true : (b : Bool) → Dec (b ≡ true)
 is-true true = yes refl
@@ -32,7 +32,7 @@ ZerosFrom m n = (k : ℕ) → k < n → getD m (28 + k) 0 ≡ 0
 
 zeros-from : (m : List ℕ) (n : ℕ) → Dec (ZerosFrom m n)
 zeros-from m zero = yes (λ k l. absurd (omega arith))
-zeros-from m (suc n) = map-dec more less (both (zeros-from m n) (ℕ-discrete (getD m (28 + n) 0) 0))
+zeros-from m (suc n) = map-dec more less (dec-and (zeros-from m n) (ℕ-discrete (getD m (28 + n) 0) 0))
   where
     more : ZerosFrom m n × (getD m (28 + n) 0 ≡ 0) → ZerosFrom m (suc n)
     more p k l = elim (decLt k n) [
@@ -57,11 +57,11 @@ head-or-not m =
     map-dec
     (λ p. record { marked = p .0; limit-N = p .1 .0; limit-Z = p .1 .1 .0; size = p .1 .1 .1 .0; few = p .1 .1 .1 .1 .0; zeros = p .1 .1 .1 .1 .1 })
     (λ h. (h .marked, (h .limit-N, (h .limit-Z, (h .size, (h .few, h .zeros))))))
-    (both (ℕ-discrete (headerAt m .mark) layoutMark)
-    (both (both (decLe 1 (headerAt m .limit)) (decLe (headerAt m .limit) 65536))
-    (both (both (decLe 1 (headerAt m .zone)) (decLe (headerAt m .zone) 4096))
-    (both (ℕ-discrete (length m) (64 + 64 * headerAt m .limit))
-    (both (decLe (headerAt m .kept) (headerAt m .limit)) (zeros-or-not m))))))
+    (dec-and (ℕ-discrete (headerAt m .mark) layoutMark)
+    (dec-and (dec-and (decLe 1 (headerAt m .limit)) (decLe (headerAt m .limit) 65536))
+    (dec-and (dec-and (decLe 1 (headerAt m .zone)) (decLe (headerAt m .zone) 4096))
+    (dec-and (ℕ-discrete (length m) (64 + 64 * headerAt m .limit))
+    (dec-and (decLe (headerAt m .kept) (headerAt m .limit)) (zeros-or-not m))))))
 
 -- ALL OF IT
 
@@ -75,5 +75,5 @@ fit-or-not m bytes = go (head-or-not m)
     chain = chainOk m (2 * headerAt m .limit) (freeCount (headerAt m .limit) (headerAt m .kept)) (headerAt m .free)
 
     go : Dec (Head m) → Dec (Fit m)
-    go (yes h) = map-dec (λ p. whole-sound m bytes h (p .0) (p .1)) (λ f. (fit-checked m f .tree, fit-checked m f .chain)) (both (is-true tree) (is-true chain))
+    go (yes h) = map-dec (λ p. whole-sound m bytes h (p .0) (p .1)) (λ f. (fit-checked m f .tree, fit-checked m f .chain)) (dec-and (is-true tree) (is-true chain))
     go (no h) = no (λ f. h (fit-checked m f .head))

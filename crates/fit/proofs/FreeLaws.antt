@@ -10,7 +10,7 @@ use lib.ListN.{length}
 use borrow.Author.Tests.{ltb-true, eqb-true, lt-ltb, le-ltb, eq-eqb, not-true, not-false}
 use Rattle.nodes.specs.declared.node.Node.{Node}
 use Rattle.nodes.specs.Nodes.{nodeAt}
-use Rattle.pool.specs.Plan.{noNode}
+use Rattle.pool.specs.Plan.{noNode, freeHeight}
 use Rattle.pool.specs.Image.{AllBelow, HoldsFree, firstOf}
 use Rattle.fit.specs.Whole.{freeOk, chainOk}
 use Rattle.fit.proofs.Tests.{and-both, is-false}
@@ -18,7 +18,7 @@ use Rattle.fit.proofs.Sound.{node-is}
 
 -- a free node's words but its next
 pub record Free (n : Node) (rank : ℕ) : Type 0 where
-  pub free-height : n .height ≡ noNode
+  pub free-height : n .height ≡ freeHeight
   pub is-rank : n .newest ≡ rank
   pub no-oldest : n .oldest ≡ 0
   pub no-left : n .left ≡ 0
@@ -31,7 +31,7 @@ module _ (n : Node) (rank : ℕ) where
   unfolding freeOk
   free-true f =
       rw (
-        eq-eqb (n .height) noNode (f .free-height),
+        eq-eqb (n .height) freeHeight (f .free-height),
         eq-eqb (n .newest) rank (f .is-rank),
         eq-eqb (n .oldest) 0 (f .no-oldest),
         eq-eqb (n .left) 0 (f .no-left),
@@ -43,14 +43,14 @@ module _ (n : Node) (rank : ℕ) where
   pub free-facts : freeOk n rank ≡ true → Free n rank
   unfolding freeOk
   free-facts h =
-      let a = and-both (eqb (n .height) noNode) _ h in
+      let a = and-both (eqb (n .height) freeHeight) _ h in
       let b = and-both (eqb (n .newest) rank) _ (a .1) in
       let c = and-both (eqb (n .oldest) 0) _ (b .1) in
       let d = and-both (eqb (n .left) 0) _ (c .1) in
       let e = and-both (eqb (n .right) 0) _ (d .1) in
       let f = and-both (eqb (n .kind) 0) _ (e .1) in
       record {
-        free-height = eqb-true (n .height) noNode (a .0);
+        free-height = eqb-true (n .height) freeHeight (a .0);
         is-rank = eqb-true (n .newest) rank (b .0);
         no-oldest = eqb-true (n .oldest) 0 (c .0);
         no-left = eqb-true (n .left) 0 (d .0);
@@ -62,10 +62,10 @@ module _ (n : Node) (rank : ℕ) where
   pub no-free : (Free n rank → ⊥) → false ≡ freeOk n rank
   no-free h = is-false (freeOk n rank) (λ t. h (free-facts t))
 
-  pub free-last : n .height ≡ noNode → n .newest ≡ rank → n .oldest ≡ 0 → n .left ≡ 0 → n .right ≡ 0 → n .kind ≡ 0 → eqb (n .spare) 0 ≡ freeOk n rank
+  pub free-last : n .height ≡ freeHeight → n .newest ≡ rank → n .oldest ≡ 0 → n .left ≡ 0 → n .right ≡ 0 → n .kind ≡ 0 → eqb (n .spare) 0 ≡ freeOk n rank
   unfolding freeOk
   free-last a b c d e f =
-      rw (eq-eqb (n .height) noNode a, eq-eqb (n .newest) rank b, eq-eqb (n .oldest) 0 c, eq-eqb (n .left) 0 d, eq-eqb (n .right) 0 e, eq-eqb (n .kind) 0 f)
+      rw (eq-eqb (n .height) freeHeight a, eq-eqb (n .newest) rank b, eq-eqb (n .oldest) 0 c, eq-eqb (n .left) 0 d, eq-eqb (n .right) 0 e, eq-eqb (n .kind) 0 f)
 
 -- THE CHAIN
 

@@ -84,20 +84,20 @@ module _ (n l r : Node) (x y : ℕ) where
   sums-last e h f = rw (f, eq-eqb (n .newest) (max (l .newest) (r .newest)) (h ∙ e))
 
 -- an inner node with its children
-pub record Inner (m : List ℕ) (nodes i from to : ℕ) : Type 0 where
+pub record InnerFacts (m : List ℕ) (nodes i from to : ℕ) : Type 0 where
   pub own : Own (nodeAt m i) from to
   pub left-in : nodeAt m i .left < nodes
   pub right-in : nodeAt m i .right < nodes
   pub sums : Sums (nodeAt m i) (nodeAt m (nodeAt m i .left)) (nodeAt m (nodeAt m i .right))
 
 module _ (m : List ℕ) (nodes i from to : ℕ) where
-  pub inner-true : Inner m nodes i from to → innerOk m nodes i from to ≡ true
+  pub inner-true : InnerFacts m nodes i from to → innerOk m nodes i from to ≡ true
   unfolding innerOk
   inner-true f =
       rw (own-true (nodeAt m i) from to (f .own), lt-ltb (nodeAt m i .left) nodes (f .left-in), lt-ltb (nodeAt m i .right) nodes (f .right-in))
       (sums-true _ _ _ (f .sums))
 
-  pub inner-facts : innerOk m nodes i from to ≡ true → Inner m nodes i from to
+  pub inner-facts : innerOk m nodes i from to ≡ true → InnerFacts m nodes i from to
   unfolding innerOk
   inner-facts h =
       let a = and-both (ownOk (nodeAt m i) from to) _ h in

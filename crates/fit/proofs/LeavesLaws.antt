@@ -12,9 +12,10 @@ use borrow.Author.Tests.{eq-eqb, ne-eqb, not-true, not-false}
 use Rattle.nodes.specs.declared.node.Node.{Node}
 use Rattle.nodes.specs.Nodes.{nodeAt}
 use Rattle.words.specs.Choice.{if_then_else_}
-use Rattle.fit.specs.Check.{leafOk, innerOk, coverMiddle, coverEnd, both, bit, leavesAt}
+use Rattle.pool.specs.Times.{bit}
+use Rattle.fit.specs.Check.{leafOk, innerOk, coverMiddle, coverEnd, both, leavesAt}
 use Rattle.fit.proofs.Tests.{leaf-facts, is-false}
-use Rattle.fit.proofs.InnerTests.{Own, Inner, inner-true, inner-facts}
+use Rattle.fit.proofs.InnerTests.{Own, InnerFacts, inner-true, inner-facts}
 
 -- a is the number of leaves, whatever the bound on the depth, if it suffices
 abbrev pub Counts : List ℕ → ℕ → ℕ → ℕ → ℕ → ℕ → Type 0
@@ -48,10 +49,10 @@ unfolding both
 both-sum a b p q = rw (ne-eqb a 0 p, ne-eqb b 0 q)
 
 module _ (m : List ℕ) (nodes i from to : ℕ) where
-  pub known : (b : Bool) → b ≡ innerOk m nodes i from to → not b ≡ false → Inner m nodes i from to
+  pub known : (b : Bool) → b ≡ innerOk m nodes i from to → not b ≡ false → InnerFacts m nodes i from to
   known b e h = inner-facts m nodes i from to (sym e ∙ not-false b h)
 
-  pub known-own : (n : Node) → n ≡ nodeAt m i → Inner m nodes i from to → Own n from to
+  pub known-own : (n : Node) → n ≡ nodeAt m i → InnerFacts m nodes i from to → Own n from to
   known-own n e f = rw e (f .own)
 
   -- a leaf counts 1 or 0
@@ -66,7 +67,7 @@ module _ (m : List ℕ) (nodes i from to : ℕ) where
     refused b e h zero lt = refl
     refused b e h (suc g) lt = rw (ne-eqb (nodeAt m i .height) 0 nz, sym e ∙ not-true b h)
 
-    module _ (f : Inner m nodes i from to) where
+    module _ (f : InnerFacts m nodes i from to) where
       pub stepped : (g : ℕ) → leavesAt m nodes (suc g) i from to
           ≡ both (leavesAt m nodes g (nodeAt m i .left) (nodeAt m i .low) (coverMiddle (nodeAt m i))) (leavesAt m nodes g (nodeAt m i .right) (coverMiddle (nodeAt m i)) (coverEnd (nodeAt m i)))
       unfolding leavesAt

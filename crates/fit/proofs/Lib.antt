@@ -6,7 +6,5 @@ mod Complete
 mod FreeLaws
 mod HeadLaws
 mod Means
-mod Tally
-pub mod Linear
 pub mod Promises
 pub mod Decided

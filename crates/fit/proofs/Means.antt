@@ -24,11 +24,12 @@ use Rattle.rules.specs.Shape.{Canonical}
 use Rattle.rules.proofs.Trees.{treeOf-canonical, canonical-rising, treeOf-entries, tree-none}
 use Rattle.pool.specs.Plan.{Plan, treeIn, number, numbers, noNode}
 use Rattle.pool.specs.Image.{Arrangement, treeOr, rootOr, numbersOr, stateOf, AllBelow, Holds, HoldsTree, Image, Fit}
+use Rattle.pool.proofs.Words.{newest-held}
 use Rattle.pool.proofs.Placed.{placed-canonical, canonical-placed}
 use Rattle.pool.proofs.Apart.{numbers-count, free-distinct, all-distinct}
 use Rattle.fit.specs.Whole.{Decides, treeOk, freeCount, leavesFrom, Head, chainOk}
 use Rattle.fit.proofs.Tests.{and-both}
-use Rattle.fit.proofs.Sound.{Good, Stands, sound, root-newest, below-append}
+use Rattle.fit.proofs.Sound.{Good, StandsWithin, sound, below-append}
 use Rattle.fit.proofs.Complete.{complete, some-leaf, below-left, below-right, root-below}
 use Rattle.fit.proofs.FreeLaws.{Chained, chain-sound, chain-complete}
 
@@ -76,13 +77,13 @@ module _ (m : List ℕ) (bytes : Bytes m) (hd : Head m) where
         };
       }
 
-  module _ (s : Stands m (2 * headerAt m .limit) (headerAt m .root) 0 4294967296 (headerAt m .kept)) where
+  module _ (s : StandsWithin m (2 * headerAt m .limit) (headerAt m .root) 0 4294967296 (headerAt m .kept)) where
     canonical : Canonical 32 0 (treeIn (s .tree))
     canonical = placed-canonical (s .placed) 32 0 (omega arith) (omega arith)
 
     known : (e : Entry) → Mem e (entries (treeIn (s .tree))) → nodeAt m (headerAt m .root) .newest ≤ headerAt m .position → (1 ≤ e .position) × (e .position ≤ headerAt m .position)
     known e q l =
-        let r : nodeAt m (headerAt m .root) .newest ≡ newest (treeIn (s .tree)) = ap (λ (j : ℕ). nodeAt m j .newest) (sym (s .is-number)) ∙ root-newest m (s .tree) (s .holds) in
+        let r : nodeAt m (headerAt m .root) .newest ≡ newest (treeIn (s .tree)) = ap (λ (j : ℕ). nodeAt m j .newest) (sym (s .is-number)) ∙ newest-held m (s .tree) (s .holds) in
         (s .good e q .0, omega (arith, r, newest-max (treeIn (s .tree)) q))
 
     -- some keys are kept
@@ -131,7 +132,7 @@ module _ (m : List ℕ) (bytes : Bytes m) (hd : Head m) where
           let b = and-both (leb (nodeAt m (headerAt m .root) .newest) (headerAt m .position)) _ (a .1) in
           let same : leavesFrom m (2 * headerAt m .limit) (headerAt m .root) ≡ headerAt m .kept = eqb-true (leavesFrom m (2 * headerAt m .limit) (headerAt m .root)) (headerAt m .kept) (b .1) in
           let s = sound m (2 * headerAt m .limit) bytes 33 (headerAt m .root) 0 4294967296 (ltb-true (headerAt m .root) (2 * headerAt m .limit) (a .0)) (λ z. nz (sym same ∙ z)) in
-          full-fit (subst (λ (x : ℕ). Stands m (2 * headerAt m .limit) (headerAt m .root) 0 4294967296 x) same s) _ (omega (arith, nz)) refl
+          full-fit (subst (λ (x : ℕ). StandsWithin m (2 * headerAt m .limit) (headerAt m .root) 0 4294967296 x) same s) _ (omega (arith, nz)) refl
           (leb-true (nodeAt m (headerAt m .root) .newest) (headerAt m .position) (b .0)) (chain-sound m (2 * headerAt m .limit) _ (headerAt m .free) c)
 
 -- COMPLETE
@@ -172,7 +173,7 @@ module _ (m : List ℕ) (A : Arrangement) (f : Image m A) where
       rw (
         ne-eqb (length (entries (treeIn P))) 0 (λ z. omega (arith, some-leaf P)),
         lt-ltb (number P) (2 * A .N) (root-below (2 * A .N) P below),
-        root-newest m P holds,
+        newest-held m P holds,
         le-leb (newest (treeIn P)) (A .p) late,
       ) (eq-eqb (leavesFrom m (2 * A .N) (number P)) (length (entries (treeIn P))) count)
 

@@ -5,7 +5,7 @@ use mathlib.Core.Path.{_≡_, refl, sym, ap, ap₂, _∙_, subst}
 use mathlib.Core.Bool.{Bool, true, false}
 use mathlib.Core.List.{List, [], _∷_, _++_, List·Memᴰ as Mem, List·Memᴰ·head as here, List·Memᴰ·tail as there, List·Memᴰ·append-cases as in-append}
 use mathlib.Core.Logic.{_⊎_, inl, inr, ⊎-elim}
-use mathlib.Core.Option.{Option, none, some}
+use mathlib.Core.Option.{none, some}
 use native.Mathlib.Omega.{arith}
 use native.Mathlib.Nat.{pow-suc}
 use lib.Dec.{eqb}
@@ -16,14 +16,16 @@ use Rattle.nodes.specs.declared.node.Node.{Node}
 use Rattle.nodes.specs.Nodes.{nodeAt}
 use Rattle.nodes.specs.Laws.{node-fits}
 use Rattle.words.specs.Choice.{if_then_else_}
-use Rattle.rules.specs.State.{Entry, Fits, isLive}
+use Rattle.rules.specs.State.{Entry, Fits}
 use Rattle.rules.specs.Tree.{entries, newest, oldest}
-use Rattle.pool.specs.Plan.{Plan, leaf, node, treeIn, number, numbers, noNode, leafNode, rootNode}
+use Rattle.pool.specs.Plan.{Plan, leaf, node, treeIn, number, numbers, rootNode}
 use Rattle.pool.specs.Image.{AllBelow, Holds}
+use Rattle.pool.proofs.Words.{newest-held, oldest-held}
 use Rattle.pool.proofs.Placed.{Placed, at-leaf, at-node, placed-widen}
-use Rattle.fit.specs.Check.{leafOk, innerOk, coverMiddle, coverEnd, both, bit, leavesAt}
-use Rattle.fit.proofs.Tests.{Live, Tombstone, Leaf, leaf-facts}
-use Rattle.fit.proofs.InnerTests.{Inner, inner-facts}
+use Rattle.pool.specs.Times.{bit}
+use Rattle.fit.specs.Check.{leafOk, innerOk, coverMiddle, coverEnd, both, leavesAt}
+use Rattle.fit.proofs.Tests.{LiveFacts, TombstoneFacts, LeafFacts, leaf-facts}
+use Rattle.fit.proofs.InnerTests.{InnerFacts, inner-facts}
 
 -- a node by its words
 pub node-is : (n : Node) {h low new old l r k s : ℕ} → n .height ≡ h → n .low ≡ low → n .newest ≡ new → n .oldest ≡ old → n .left ≡ l → n .right ≡ r → n .kind ≡ k → n .spare ≡ s
@@ -35,7 +37,7 @@ abbrev pub Good : Entry → Type 0
 Good e = (1 ≤ e .position) × Fits (e .payload)
 
 -- a tree stands at node i, its keys of from .. to − 1, with c leaves
-pub record Stands (m : List ℕ) (nodes i from to c : ℕ) : Type 0 where
+pub record StandsWithin (m : List ℕ) (nodes i from to c : ℕ) : Type 0 where
   pub tree : Plan
   pub is-number : number tree ≡ i
   pub holds : Holds m tree
@@ -44,31 +46,12 @@ pub record Stands (m : List ℕ) (nodes i from to c : ℕ) : Type 0 where
   pub good : (e : Entry) → Mem e (entries (treeIn tree)) → Good e
   pub count : length (entries (treeIn tree)) ≡ c
 
--- newest and oldest of a tree stand at its root
-leaf-newest : (k w : ℕ) (o : Option ℕ) → leafNode k w o .newest ≡ w
-leaf-newest k w none = refl
-leaf-newest k w (some x) = refl
-
-leaf-oldest : (k w : ℕ) (o : Option ℕ) → leafNode k w o .oldest ≡ (if isLive o then noNode else w)
-leaf-oldest k w none = refl
-leaf-oldest k w (some x) = refl
-
-pub root-newest : (m : List ℕ) (P : Plan) → Holds m P → nodeAt m (number P) .newest ≡ newest (treeIn P)
-unfolding newest
-root-newest m (leaf i e) h = ap (λ (n : Node). n .newest) h ∙ leaf-newest (e .key) (e .position) (e .payload)
-root-newest m (node i k low l r) h = ap (λ (n : Node). n .newest) (h .0)
-
-pub root-oldest : (m : List ℕ) (P : Plan) → Holds m P → nodeAt m (number P) .oldest ≡ oldest (treeIn P)
-unfolding oldest
-root-oldest m (leaf i e) h = ap (λ (n : Node). n .oldest) h ∙ leaf-oldest (e .key) (e .position) (e .payload)
-root-oldest m (node i k low l r) h = ap (λ (n : Node). n .oldest) (h .0)
-
 pub below-append : (n : ℕ) (xs ys : List ℕ) → AllBelow n xs → AllBelow n ys → AllBelow n (xs ++ ys)
 below-append n [] ys a b = b
 below-append n (x ∷ xs) ys a b = (a .0, below-append n xs ys (a .1) b)
 
 module _ (m : List ℕ) (nodes : ℕ) (bytes : Bytes m) where
-  one-stands : (i from to : ℕ) (e : Entry) → i < nodes → nodeAt m i ≡ rootNode (leaf i e) → from ≤ e .key → e .key < to → Good e → Stands m nodes i from to 1
+  one-stands : (i from to : ℕ) (e : Entry) → i < nodes → nodeAt m i ≡ rootNode (leaf i e) → from ≤ e .key → e .key < to → Good e → StandsWithin m nodes i from to 1
   unfolding entries
   one-stands i from to e b h lo hi g =
       record {
@@ -85,10 +68,10 @@ module _ (m : List ℕ) (nodes : ℕ) (bytes : Bytes m) where
       only x (here q) = subst (λ (z : Entry). Good z) (sym q) g
       only x (there s) = elim s [ ]
 
-  leaf-stands : (i from to : ℕ) → i < nodes → nodeAt m i .height ≡ 0 → Leaf (nodeAt m i) from to → Stands m nodes i from to 1
+  leaf-stands : (i from to : ℕ) → i < nodes → nodeAt m i .height ≡ 0 → LeafFacts (nodeAt m i) from to → StandsWithin m nodes i from to 1
   leaf-stands i from to b z f = go (f .words .sort)
     where
-      go : Live (nodeAt m i) ⊎ Tombstone (nodeAt m i) → Stands m nodes i from to 1
+      go : LiveFacts (nodeAt m i) ⊎ TombstoneFacts (nodeAt m i) → StandsWithin m nodes i from to 1
       go (inl v) =
           let w = node-fits m i bytes in
           one-stands i from to (record { key = nodeAt m i .low; position = nodeAt m i .newest; payload = some (nodeAt m i .left * 4294967296 + nodeAt m i .right) }) b
@@ -100,10 +83,10 @@ module _ (m : List ℕ) (nodes : ℕ) (bytes : Bytes m) where
           (node-is (nodeAt m i) z refl refl (v .oldest-newest) (v .no-left) (v .no-right) (v .kind-tombstone) (f .words .no-spare))
           (f .at-least) (f .below) (f .words .written, tt)
 
-  node-stands : (i from to k a b : ℕ) → i < nodes → nodeAt m i .height ≡ suc k → Inner m nodes i from to
-      → Stands m nodes (nodeAt m i .left) (nodeAt m i .low) (coverMiddle (nodeAt m i)) a
-      → Stands m nodes (nodeAt m i .right) (coverMiddle (nodeAt m i)) (coverEnd (nodeAt m i)) b
-      → Stands m nodes i from to (a + b)
+  node-stands : (i from to k a b : ℕ) → i < nodes → nodeAt m i .height ≡ suc k → InnerFacts m nodes i from to
+      → StandsWithin m nodes (nodeAt m i .left) (nodeAt m i .low) (coverMiddle (nodeAt m i)) a
+      → StandsWithin m nodes (nodeAt m i .right) (coverMiddle (nodeAt m i)) (coverEnd (nodeAt m i)) b
+      → StandsWithin m nodes i from to (a + b)
   unfolding entries newest oldest
   node-stands i from to k a b lt eh f sl sr =
       let two : 2 ^ nodeAt m i .height ≡ 2 ^ suc k = ap (λ (x : ℕ). 2 ^ x) eh in
@@ -113,8 +96,8 @@ module _ (m : List ℕ) (nodes : ℕ) (bytes : Bytes m) where
         is-number = refl;
         holds = (
           node-is (nodeAt m i) eh refl
-              (f .sums .is-newest ∙ ap₂ max (ap (λ (j : ℕ). nodeAt m j .newest) (sym (sl .is-number)) ∙ root-newest m (sl .tree) (sl .holds)) (ap (λ (j : ℕ). nodeAt m j .newest) (sym (sr .is-number)) ∙ root-newest m (sr .tree) (sr .holds)))
-              (f .sums .is-oldest ∙ ap₂ min (ap (λ (j : ℕ). nodeAt m j .oldest) (sym (sl .is-number)) ∙ root-oldest m (sl .tree) (sl .holds)) (ap (λ (j : ℕ). nodeAt m j .oldest) (sym (sr .is-number)) ∙ root-oldest m (sr .tree) (sr .holds)))
+              (f .sums .is-newest ∙ ap₂ max (ap (λ (j : ℕ). nodeAt m j .newest) (sym (sl .is-number)) ∙ newest-held m (sl .tree) (sl .holds)) (ap (λ (j : ℕ). nodeAt m j .newest) (sym (sr .is-number)) ∙ newest-held m (sr .tree) (sr .holds)))
+              (f .sums .is-oldest ∙ ap₂ min (ap (λ (j : ℕ). nodeAt m j .oldest) (sym (sl .is-number)) ∙ oldest-held m (sl .tree) (sl .holds)) (ap (λ (j : ℕ). nodeAt m j .oldest) (sym (sr .is-number)) ∙ oldest-held m (sr .tree) (sr .holds)))
               (sym (sl .is-number)) (sym (sr .is-number)) (f .own .no-kind) (f .own .no-spare),
           sl .holds,
           sr .holds,
@@ -136,10 +119,10 @@ module _ (m : List ℕ) (nodes : ℕ) (bytes : Bytes m) where
       go false false x y h = (eqb-false a 0 x, eqb-false b 0 y, refl)
 
   Sound : ℕ → ℕ → ℕ → ℕ → Type 0
-  Sound i from to c = i < nodes → (c ≡ 0 → ⊥) → Stands m nodes i from to c
+  Sound i from to c = i < nodes → (c ≡ 0 → ⊥) → StandsWithin m nodes i from to c
 
   -- SOUND
-  pub sound : (g i from to : ℕ) → i < nodes → (leavesAt m nodes g i from to ≡ 0 → ⊥) → Stands m nodes i from to (leavesAt m nodes g i from to)
+  pub sound : (g i from to : ℕ) → i < nodes → (leavesAt m nodes g i from to ≡ 0 → ⊥) → StandsWithin m nodes i from to (leavesAt m nodes g i from to)
   unfolding leavesAt Sound
   sound zero i from to lt h = absurd (h refl)
   sound (suc g) i from to lt h =
@@ -153,13 +136,13 @@ module _ (m : List ℕ) (nodes : ℕ) (bytes : Bytes m) where
       R : ℕ
       R = leavesAt m nodes g (nodeAt m i .right) (coverMiddle (nodeAt m i)) (coverEnd (nodeAt m i))
 
-      inner : (H : ℕ) → nodeAt m i .height ≡ H → (H ≡ 0 → ⊥) → Inner m nodes i from to
+      inner : (H : ℕ) → nodeAt m i .height ≡ H → (H ≡ 0 → ⊥) → InnerFacts m nodes i from to
           → Sound (nodeAt m i .left) (nodeAt m i .low) (coverMiddle (nodeAt m i)) L → Sound (nodeAt m i .right) (coverMiddle (nodeAt m i)) (coverEnd (nodeAt m i)) R
           → Sound i from to (both L R)
       inner zero e nz f sl sr lt h = absurd (nz refl)
       inner (suc k) e nz f sl sr lt h =
           let s = both-some L R h in
-          subst (λ (c : ℕ). Stands m nodes i from to c) (sym (s .2)) (node-stands i from to k L R lt e f (sl (f .left-in) (s .0)) (sr (f .right-in) (s .1)))
+          subst (λ (c : ℕ). StandsWithin m nodes i from to c) (sym (s .2)) (node-stands i from to k L R lt e f (sl (f .left-in) (s .0)) (sr (f .right-in) (s .1)))
 
       go : (z l k : Bool) → eqb (nodeAt m i .height) 0 ≡ z → leafOk (nodeAt m i) from to ≡ l → innerOk m nodes i from to ≡ k
           → Sound (nodeAt m i .left) (nodeAt m i .low) (coverMiddle (nodeAt m i)) L → Sound (nodeAt m i .right) (coverMiddle (nodeAt m i)) (coverEnd (nodeAt m i)) R

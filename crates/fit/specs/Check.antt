@@ -1,18 +1,20 @@
 -- The tests of the fitness check, word by word, and what it finds below a node. `leavesAt` follows the code; what it means is a theorem.
 -- Assumes nothing: these are definitions.
 use Prim.Native.Nat.{ℕ, zero, suc, _+_, _/_, _%_, _^_, max, min}
-use mathlib.Core.Bool.{Bool, true, false, _&&_, _||_}
+use mathlib.Core.Bool.{Bool, _&&_, _||_}
 use mathlib.Core.List.{List}
 use lib.Dec.{ltb, leb, eqb}
 use Rattle.nodes.specs.declared.node.Node.{Node}
 use Rattle.nodes.specs.Nodes.{nodeAt}
 use Rattle.words.specs.Choice.{if_then_else_}
-use Rattle.pool.specs.Plan.{noNode}
+use Rattle.rules.specs.Tree.{noTombstone}
+use Rattle.pool.specs.Times.{bit}
 
--- the words behind the key of a live key, and of a tombstone
+-- the words behind the key of a live key
 unfoldable pub liveOk : Node → Bool
-liveOk n = eqb (n .kind) 1 && eqb (n .oldest) noNode
+liveOk n = eqb (n .kind) 1 && eqb (n .oldest) noTombstone
 
+-- and of a tombstone
 unfoldable pub tombstoneOk : Node → Bool
 tombstoneOk n = eqb (n .kind) 2 && (eqb (n .oldest) (n .newest) && (eqb (n .left) 0 && eqb (n .right) 0))
 
@@ -49,10 +51,6 @@ coverEnd n = n .low + 2 ^ n .height
 -- both halves hold a tree
 unfoldable pub both : ℕ → ℕ → ℕ
 both a b = if eqb a 0 then 0 else if eqb b 0 then 0 else a + b
-
-abbrev pub bit : Bool → ℕ
-bit true = 1
-bit false = 0
 
 -- the number of leaves of the tree at node i, whose keys are of from .. to − 1; 0 if there is none. The third argument bounds the depth
 unfoldable pub leavesAt : List ℕ → ℕ → ℕ → ℕ → ℕ → ℕ → ℕ

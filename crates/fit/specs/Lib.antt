@@ -1,3 +1,2 @@
 pub mod Check
 pub mod Whole
-pub mod Visits

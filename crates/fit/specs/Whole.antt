@@ -1,6 +1,6 @@
 -- The rest of the fitness check: the free nodes, the header, and the tree's place in them.
 -- Assumes nothing: these are definitions.
-use Prim.Native.Nat.{ℕ, zero, suc, _+_, _-_, _*_, _≤_, _<_}
+use Prim.Native.Nat.{ℕ, zero, suc, _+_, _-_, _*_, _^_, _≤_, _<_}
 use mathlib.Core.Path.{_≡_}
 use mathlib.Core.Bool.{Bool, true, _&&_}
 use mathlib.Core.List.{List}
@@ -9,7 +9,7 @@ use lib.ListN.{length, getD}
 use Rattle.nodes.specs.declared.node.Node.{Node}
 use Rattle.nodes.specs.Nodes.{nodeAt, headerAt}
 use Rattle.words.specs.Choice.{if_then_else_}
-use Rattle.pool.specs.Plan.{noNode}
+use Rattle.pool.specs.Plan.{noNode, freeHeight}
 use Rattle.pool.specs.Image.{layoutMark}
 use Rattle.fit.specs.Check.{leavesAt}
 
@@ -21,7 +21,7 @@ pub record Decides (P : Type 0) (r : Bool) : Type 0 where
 -- a free node of this rank
 unfoldable pub freeOk : Node → ℕ → Bool
 freeOk n rank =
-    eqb (n .height) noNode && (eqb (n .newest) rank && (eqb (n .oldest) 0 && (eqb (n .left) 0 && (eqb (n .right) 0 && (eqb (n .kind) 0 && eqb (n .spare) 0)))))
+    eqb (n .height) freeHeight && (eqb (n .newest) rank && (eqb (n .oldest) 0 && (eqb (n .left) 0 && (eqb (n .right) 0 && (eqb (n .kind) 0 && eqb (n .spare) 0)))))
 
 -- from node i on so many free nodes, the ranks falling to 1
 unfoldable pub chainOk : List ℕ → ℕ → ℕ → ℕ → Bool
@@ -34,7 +34,7 @@ freeCount N c = if eqb c 0 then 2 * N else 2 * N + 1 - 2 * c
 
 -- the leaves of the tree at a root
 abbrev pub leavesFrom : List ℕ → ℕ → ℕ → ℕ
-leavesFrom m nodes root = leavesAt m nodes 33 root 0 4294967296
+leavesFrom m nodes root = leavesAt m nodes 33 root 0 (2 ^ 32)
 
 -- so many keys are kept, in the tree at root, none written after p
 unfoldable pub treeOk : List ℕ → ℕ → ℕ → ℕ → ℕ → Bool

@@ -1,4 +1,6 @@
 // The free nodes: a chain whose ranks fall by one, so that no node can stand in it twice.
+use nodes::node::FREE;
+use nodes::node::NO_NODE;
 use nodes::node::Node;
 use nodes::node::read_node;
 ghost use mathlib.Core.Path.{_≡_};
@@ -10,7 +12,7 @@ ghost use Rattle.fit.specs.Whole.{freeOk, chainOk};
 fn free_fits(n: Node, rank: u32) -> bool
     ensures { λ r. ⌜ r ≡ freeOk n rank ⌝ }
 {
-    if n.height != 4294967295 {
+    if n.height != FREE {
         return false;
     }
     if n.newest != rank {
@@ -49,5 +51,5 @@ pub fn chain_fits(pool: &[u8], nodes: u32, first: u32, count: u32) -> bool
         i = n.low;
         rank -= 1;
     }
-    i == 4294967295
+    i == NO_NODE
 }

@@ -1,8 +1,10 @@
 // An inner node: its own words, and those of its children that it sums up.
 use nodes::node::Node;
 use nodes::node::read_node;
+use nodes::order::larger;
+use nodes::order::smaller;
 ghost use mathlib.Core.Path.{_≡_};
-ghost use Prim.Native.Nat.{_+_, _*_, _^_, _≤_, _<_, max, min};
+ghost use Prim.Native.Nat.{_+_, _*_, _^_, _≤_, _<_};
 ghost use lib.ListN.{length};
 ghost use Rattle.nodes.specs.Nodes.{nodeAt};
 ghost use Rattle.fit.specs.Check.{ownOk, sumsOk, innerOk};
@@ -15,21 +17,9 @@ pub fn size_of(height: u32) -> u64
     1u64 << height
 }
 
-fn larger(a: u32, b: u32) -> u32
-    ensures { λ r. ⌜ r ≡ max a b ⌝ }
-{
-    if a < b { b } else { a }
-}
-
-fn smaller(a: u32, b: u32) -> u32
-    ensures { λ r. ⌜ r ≡ min a b ⌝ }
-{
-    if a < b { a } else { b }
-}
-
 // Whether an inner node covers a part of from .. to - 1 that begins at a multiple of its size, and its other words are zero.
 fn own_fits(n: Node, from: u64, to: u64) -> bool
-    requires { ⌜ to ≤ 4294967296 ⌝ }
+    requires { ⌜ to ≤ 2 ^ 32 ⌝ }
     ensures { λ r. ⌜ r ≡ ownOk n from to ⌝ }
 {
     if n.height > 32 {
@@ -64,7 +54,7 @@ fn sums_up(n: Node, l: Node, r: Node) -> bool
 
 // Whether inner node i is one in all but what lies below it.
 pub fn inner_fits(pool: &[u8], nodes: u32, i: u32, from: u64, to: u64) -> bool
-    requires { ⌜ (64 + 32 * nodes ≤ length (now pool)) × (i < nodes) × (to ≤ 4294967296) ⌝ }
+    requires { ⌜ (64 + 32 * nodes ≤ length (now pool)) × (i < nodes) × (to ≤ 2 ^ 32) ⌝ }
     ensures { λ r. ⌜ r ≡ innerOk (now (pool .entry)) nodes i from to ⌝ }
 {
     let n = read_node(pool, i);

@@ -1,11 +1,13 @@
 // A leaf, looked at by its parent: no call for a leaf.
+use nodes::node::NO_TOMBSTONE;
 use nodes::node::Node;
 use nodes::node::read_node;
 ghost use mathlib.Core.Path.{_≡_};
 ghost use Prim.Native.Nat.{_+_, _*_, _≤_, _<_};
 ghost use lib.ListN.{length};
 ghost use Rattle.nodes.specs.Nodes.{base, nodeAt};
-ghost use Rattle.fit.specs.Check.{entryOk, leafOk, bit};
+ghost use Rattle.pool.specs.Times.{bit};
+ghost use Rattle.fit.specs.Check.{entryOk, leafOk};
 
 // Whether a leaf's words are those of a live key or of a tombstone, whatever its key.
 fn entry_fits(n: Node) -> bool
@@ -18,7 +20,7 @@ fn entry_fits(n: Node) -> bool
         return false;
     }
     if n.kind == 1 {
-        return n.oldest == 4294967295;
+        return n.oldest == NO_TOMBSTONE;
     }
     if n.kind != 2 {
         return false;

@@ -11,7 +11,7 @@ ghost use Rattle.fit.specs.Check.{leavesAt};
 
 // How many leaves the tree at inner node i has, whose keys are of from .. to - 1; 0 if there is no such tree.
 pub fn leaves(pool: &[u8], nodes: u32, i: u32, from: u64, to: u64) -> u64
-    requires { ⌜ (64 + 32 * nodes ≤ length (now pool)) × (i < nodes) × (nodeAt (now pool) i .height ≡ 0 → ⊥) × (to ≤ 4294967296) ⌝ }
+    requires { ⌜ (64 + 32 * nodes ≤ length (now pool)) × (i < nodes) × (nodeAt (now pool) i .height ≡ 0 → ⊥) × (to ≤ 2 ^ 32) ⌝ }
     ensures { λ r. ⌜ ((g : ℕ) → to - from < 2 ^ g → r ≡ leavesAt (now (pool .entry)) nodes g i from to) ⌝ }
 {
     if !inner_fits(pool, nodes, i, from, to) {

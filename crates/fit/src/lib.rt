@@ -1,4 +1,4 @@
-// FITNESS: whether any bytes are the image of a state. Nothing is asked of the bytes, and each node is looked at once.
+// FITNESS: whether any bytes are the image of a state. Nothing is asked of the bytes.
 mod free;
 mod head;
 mod inner;

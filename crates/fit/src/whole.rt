@@ -4,6 +4,7 @@ use crate::head::head_fits;
 use crate::leaf::leaf_count;
 use crate::leaves::leaves;
 use nodes::header::read_header;
+use nodes::node::NO_NODE;
 use nodes::node::read_node;
 ghost use mathlib.Core.Path.{_≡_};
 ghost use Prim.Native.Nat.{_+_, _*_, _≤_, _<_};
@@ -11,15 +12,18 @@ ghost use lib.ListN.{length};
 ghost use Rattle.pool.specs.Image.{Fit};
 ghost use Rattle.fit.specs.Whole.{Decides, treeOk, freeCount, leavesFrom};
 
+// One past the last key.
+const KEYS_END: u64 = 4294967296;
+
 // How many leaves the tree at this root has, 0 if there is no tree.
 fn leaves_from(pool: &[u8], nodes: u32, root: u32) -> u64
     requires { ⌜ (64 + 32 * nodes ≤ length (now pool)) × (root < nodes) ⌝ }
     ensures { λ r. ⌜ r ≡ leavesFrom (now (pool .entry)) nodes root ⌝ }
 {
     if read_node(pool, root).height == 0 {
-        return leaf_count(pool, root, 0, 4294967296);
+        return leaf_count(pool, root, 0, KEYS_END);
     }
-    leaves(pool, nodes, root, 0, 4294967296)
+    leaves(pool, nodes, root, 0, KEYS_END)
 }
 
 // Whether `kept` keys are kept in the tree at `root`, none written after p.
@@ -28,7 +32,7 @@ fn tree_fits(pool: &[u8], nodes: u32, root: u32, kept: u32, p: u32) -> bool
     ensures { λ r. ⌜ r ≡ treeOk (now (pool .entry)) nodes root kept p ⌝ }
 {
     if kept == 0 {
-        return root == 4294967295;
+        return root == NO_NODE;
     }
     if nodes <= root {
         return false;
@@ -51,7 +55,7 @@ fn free_count(limit: u32, kept: u32) -> u32
     }
 }
 
-// Whether the bytes are the image of a state. Any bytes may be lent; at most one look at each node.
+// Whether the bytes are the image of a state. Any bytes may be lent.
 pub fn fit(pool: &[u8]) -> bool
     ensures { λ r. ⌜ Decides (Fit (now (pool .entry))) r ⌝ }
 {

@@ -17,15 +17,15 @@ use Rattle.rules.specs.Tree.{Tree, treeOf, walk}
 use Rattle.rules.proofs.Search.{walk-found}
 use Rattle.pool.specs.Plan.{noNode}
 use Rattle.pool.specs.Image.{Arrangement, Image, stateOf}
-use Rattle.conflict_search.specs.declared.Walked.{Walked}
+use Rattle.conflict_search.specs.declared.Searched.{Searched}
 use Rattle.conflict_search.specs.Conflict.{conflictIn}
-use Rattle.conflict_search.proofs.Answer.{named, named-found}
+use Rattle.conflict_search.proofs.Answer.{namesLeaf, named-found}
 use Rattle.judge.specs.Judged.{judged, judgedOf}
 
 -- THE LEAF FOUND
 
 -- a leaf is named exactly if an entry of the state is hit
-named-any : (s : ℕ) (f : List Scan) {m : List ℕ} {A : Arrangement} → Image m A → named (conflictIn s f (A .tree)) ≡ any (hits s f) (stateOf A .kept)
+named-any : (s : ℕ) (f : List Scan) {m : List ℕ} {A : Arrangement} → Image m A → namesLeaf (conflictIn s f (A .tree)) ≡ any (hits s f) (stateOf A .kept)
 named-any s f i = named-found s f i ∙ ap (λ (t : Tree). walk s f t .found) (i .arranged .shape) ∙ walk-found s f 32 0 (i .arranged .lawful .rising)
 
 -- THE RETURNS
@@ -49,19 +49,19 @@ module _ (m : List ℕ) (s : ℕ) (f : List Scan) (h : Header) (eh : h ≡ heade
         let y : A .Z < A .p - s = omega (arith, position-is A i, zone-is A i) in
         rw (le-ltb (A .p) s x, lt-ltb (A .Z) (A .p - s) y)
 
-    module _ (young : h .position - s ≤ h .zone) (w : Walked) (ew : (A : Arrangement) → Image m A → w ≡ conflictIn s f (A .tree)) where
+    module _ (young : h .position - s ≤ h .zone) (w : Searched) (ew : (A : Arrangement) → Image m A → w ≡ conflictIn s f (A .tree)) where
       -- the two tests before, and the looks
       tests : (A : Arrangement) → Image m A → judgedOf (stateOf A) s f ≡ (if any (hits s f) (stateOf A .kept) then judged conflict (w .looks) else judged committed (w .looks))
       unfolding judgedOf
       tests A i =
           let x : s ≤ A .p = omega (arith, position-is A i) in
           let y : A .p - s ≤ A .Z = omega (arith, position-is A i, zone-is A i) in
-          let l : w .looks ≡ walk s f (treeOf 32 0 (stateOf A .kept)) .looks = ap (λ (v : Walked). v .looks) (ew A i) ∙ ap (λ (t : Tree). walk s f t .looks) (i .arranged .shape) in
+          let l : w .looks ≡ walk s f (treeOf 32 0 (stateOf A .kept)) .looks = ap (λ (v : Searched). v .looks) (ew A i) ∙ ap (λ (t : Tree). walk s f t .looks) (i .arranged .shape) in
           rw (le-ltb (A .p) s x, le-ltb (A .Z) (A .p - s) y, ← l)
 
-      -- whether the leaf is named
-      named-is : (A : Arrangement) → Image m A → named w ≡ any (hits s f) (stateOf A .kept)
-      named-is A i = ap named (ew A i) ∙ named-any s f i
+      -- whether the leaf is namesLeaf
+      named-is : (A : Arrangement) → Image m A → namesLeaf w ≡ any (hits s f) (stateOf A .kept)
+      named-is A i = ap namesLeaf (ew A i) ∙ named-any s f i
 
       pub is-conflict : (w .leaf ≡ noNode → ⊥) → (A : Arrangement) → Image m A → judged conflict (w .looks) ≡ judgedOf (stateOf A) s f
       is-conflict d A i =

@@ -1,5 +1,6 @@
 // What meld and refresh ask first of a record that is well formed.
 use conflict_search::conflict;
+use nodes::NO_NODE;
 use nodes::read_header;
 use record::Answer;
 ghost use mathlib.Core.Path.{_≡_};
@@ -33,7 +34,7 @@ pub fn judge(pool: &[u8], snapshot: u32, keys: &[u32], lows: &[u32], highs: &[u3
         };
     }
     let walked = conflict(pool, snapshot, keys, lows, highs);
-    if walked.leaf != 4294967295 {
+    if walked.leaf != NO_NODE {
         return Judged {
             answer: Answer::CONFLICT,
             looks: walked.looks,

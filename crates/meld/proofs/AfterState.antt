@@ -20,8 +20,10 @@ use Rattle.rules.proofs.Stored.{writes-at}
 use Rattle.rules.specs.EntryFits.{EntryFits}
 use Rattle.rules.proofs.Written.{ValidIf, record-sized}
 use Rattle.pool.specs.Image.{Arrangement, Arranged, stateOf}
-use Rattle.drop.specs.Drop.{dropIn, movedOn}
-use Rattle.drop.proofs.Arranging.{drop-arranged, drop-young, onward-arranged}
+use Rattle.drop.specs.Drop.{dropIn}
+use Rattle.advance.specs.Moved.{movedOn}
+use Rattle.drop.proofs.Arranging.{drop-arranged, drop-young}
+use Rattle.advance.proofs.Moving.{onward-arranged}
 use Rattle.commit.specs.Applied.{storeIn}
 use Rattle.commit.specs.Commit.{oldAt}
 use Rattle.commit.proofs.Storing.{AllStorable, state-store}

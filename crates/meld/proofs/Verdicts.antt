@@ -29,7 +29,8 @@ use Rattle.pool.specs.Image.{Arrangement, Image, Fit, stateOf}
 use Rattle.conflict_search.specs.Sorted.{Sorted, footprint}
 use Rattle.conflict_search.proofs.Reach.{sorted-valid, footprint-reach}
 use Rattle.drop.specs.Old.{stays}
-use Rattle.drop.specs.Drop.{dropIn, movedOn, PositionsLeft}
+use Rattle.drop.specs.Drop.{dropIn}
+use Rattle.advance.specs.Moved.{movedOn, PositionsLeft}
 use Rattle.drop.proofs.Olds.{keep-young}
 use Rattle.judge.specs.declared.judged.Judged.{Judged}
 use Rattle.judge.specs.Judged.{judgedOf}

@@ -18,7 +18,7 @@ use Rattle.rules.specs.Verdict.{positionsUsedUp as isUsedUp, malformed as isMal
 use Rattle.rules.specs.Tree.{looksOf}
 use Rattle.rules.proofs.Near.{verdict-last}
 use Rattle.pool.specs.Image.{Arrangement, Image, Fit, stateOf}
-use Rattle.drop.specs.Drop.{movedOn, PositionsLeft}
+use Rattle.advance.specs.Moved.{movedOn, PositionsLeft}
 use Rattle.fit.specs.Whole.{Decides}
 use Rattle.meld.specs.declared.melding.Melded.{Melded}
 use Rattle.meld.specs.After.{afterIn}

@@ -11,7 +11,8 @@ use Rattle.words.specs.Choice.{if_then_else_}
 use Rattle.rules.specs.Footprint.{writesOf}
 use Rattle.rules.specs.Verdict.{Verdict, committed, conflict, tooOld, noRoom, malformed, ahead, positionsUsedUp, whole, verdict, pointsOf}
 use Rattle.pool.specs.Image.{Arrangement, stateOf}
-use Rattle.drop.specs.Drop.{dropIn, movedOn}
+use Rattle.drop.specs.Drop.{dropIn}
+use Rattle.advance.specs.Moved.{movedOn}
 use Rattle.commit.specs.Applied.{storeIn}
 use Rattle.commit.specs.Commit.{oldAt}
 

@@ -1,8 +1,8 @@
 // A record's verdict, from its lists.
 use crate::melding::Melded;
+use advance::advance;
 use commit::commit_after_drop;
 use commit::commit_writes;
-use drop::advance;
 use judge::judge;
 use record::Answer;
 use room::Room;

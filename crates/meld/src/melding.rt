@@ -1,7 +1,8 @@
 // Melding one record into a pool.
 use crate::lists::meld_lists;
-use drop::advance;
+use advance::advance;
 use fit::fit;
+use nodes::LAST_POSITION;
 use nodes::read_header;
 use record::Answer;
 use record::read;
@@ -20,7 +21,7 @@ pub fn meld_fit(pool: &mut [u8], bytes: &[u8]) -> Melded
     requires { ⌜ Fit (now pool) ⌝ }
     ensures { λ r. ⌜ MeldsFit (now (pool .entry)) (now (bytes .entry)) (now (pool .exit)) r ⌝ }
 {
-    if read_header(pool).position == 4294967295 {
+    if read_header(pool).position == LAST_POSITION {
         return Melded {
             answer: Answer::POSITIONS_USED_UP,
             looks: 0,

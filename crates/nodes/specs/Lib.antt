@@ -1,3 +1,4 @@
 pub mod Nodes
+pub mod Mended
 pub mod Runs
 pub mod Laws

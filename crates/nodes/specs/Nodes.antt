@@ -41,6 +41,10 @@ nodeAt m i = nodeFrom m (base i)
 unfoldable pub putNode : List ℕ → ℕ → Node → List ℕ
 putNode m i n = putWords m (base i) (nodeWords n)
 
+-- an inner node's words
+abbrev pub innerNode : ℕ → ℕ → ℕ → ℕ → ℕ → ℕ → Node
+innerNode h low new old l r = record { height = h; low = low; newest = new; oldest = old; left = l; right = r; kind = 0; spare = 0 }
+
 -- the header's seven words
 unfoldable pub headerAt : List ℕ → Header
 headerAt m =

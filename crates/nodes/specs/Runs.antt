@@ -13,7 +13,7 @@ use Rattle.nodes.specs.Nodes.{putWords}
 -- each fits a word
 abbrev pub Small : List ℕ → Type 0
 Small [] = Unit
-Small (w ∷ ws) = (w < 4294967296) × Small ws
+Small (w ∷ ws) = (w < 2 ^ 32) × Small ws
 
 pub length-words : (ws m : List ℕ) (at : ℕ) → length (putWords m at ws) ≡ length m
 unfolding putWords

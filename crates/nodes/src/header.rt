@@ -6,6 +6,9 @@ ghost use Prim.Native.Nat.{_≤_};
 ghost use lib.ListN.{length};
 ghost use Rattle.nodes.specs.Nodes.{headerAt, putHeader};
 
+// The last position (R2).
+pub const LAST_POSITION: u32 = 4294967295;
+
 pub struct Header {
     // Names the layout.
     pub mark: u32,
@@ -17,7 +20,7 @@ pub struct Header {
     pub position: u32,
     // How many keys are kept.
     pub kept: u32,
-    // The root's number, 4,294,967,295 if no key is kept.
+    // The root's number, NO_NODE if no key is kept.
     pub root: u32,
     // The first free node's number.
     pub free: u32,

@@ -9,14 +9,20 @@ ghost use Rattle.nodes.specs.Nodes.{base, nodeAt, putNode};
 // The number that names no node.
 pub const NO_NODE: u32 = 4294967295;
 
+// The height of a free node.
+pub const FREE: u32 = 4294967295;
+
+// The oldest of a node without a tombstone at or below.
+pub const NO_TOMBSTONE: u32 = 4294967295;
+
 pub struct Node {
-    // 0 in a leaf; 1 to 32 in an inner node, which splits at bit height - 1; 4,294,967,295 in a free node.
+    // 0 in a leaf; 1 to 32 in an inner node, which splits at bit height - 1; FREE in a free node.
     pub height: u32,
     // A leaf's key; the least number that an inner node covers; the next free node.
     pub low: u32,
     // The largest write position at or below; a free node's rank.
     pub newest: u32,
-    // The smallest position of a tombstone at or below, 4,294,967,295 if there is none.
+    // The smallest position of a tombstone at or below, NO_TOMBSTONE if there is none.
     pub oldest: u32,
     // A leaf's payload, upper half; the left child's number.
     pub left: u32,

@@ -13,7 +13,7 @@ use lib.Pow.{pow-pos}
 use Rattle.nodes.specs.declared.node.Node.{Node}
 use Rattle.nodes.specs.Nodes.{nodeAt}
 use Rattle.rules.specs.Tree.{entries}
-use Rattle.pool.specs.Plan.{Plan, leaf, node, treeIn, number, numbers, noNode, leafNode}
+use Rattle.pool.specs.Plan.{Plan, leaf, node, treeIn, number, numbers, freeHeight, leafNode}
 use Rattle.pool.specs.Image.{Distinct, Holds, HoldsFree}
 use Rattle.pool.proofs.Placed.{Placed, at-leaf, at-node, not-higher}
 
@@ -83,9 +83,9 @@ numbers-count (node i h low l r) =
 
 -- THE FREE NODES
 
-pub free-words : (m : List ℕ) (is : List ℕ) → HoldsFree m is → (j : ℕ) → Mem j is → (nodeAt m j .height ≡ noNode) × (nodeAt m j .newest ≤ length is)
+pub free-words : (m : List ℕ) (is : List ℕ) → HoldsFree m is → (j : ℕ) → Mem j is → (nodeAt m j .height ≡ freeHeight) × (nodeAt m j .newest ≤ length is)
 free-words m (i ∷ is) q j (here s) =
-    subst (λ (x : ℕ). (nodeAt m x .height ≡ noNode) × (nodeAt m x .newest ≤ suc (length is))) (sym s) (ap (λ (n : Node). n .height) (q .0), omega (arith, ap (λ (n : Node). n .newest) (q .0)))
+    subst (λ (x : ℕ). (nodeAt m x .height ≡ freeHeight) × (nodeAt m x .newest ≤ suc (length is))) (sym s) (ap (λ (n : Node). n .height) (q .0), omega (arith, ap (λ (n : Node). n .newest) (q .0)))
 free-words m (i ∷ is) q j (there s) = let f = free-words m is (q .1) j s in (f .0, omega (arith, f .1))
 
 pub free-distinct : (m : List ℕ) (is : List ℕ) → HoldsFree m is → Distinct is

@@ -3,6 +3,7 @@
 use Prim.Native.Nat.{ℕ, _+_, _≤_, _<_}
 use mathlib.Core.Path.{_≡_, refl, _∙_}
 use mathlib.Core.Logic.{inl, inr, _≢_}
+use mathlib.Core.Option.{Option, none, some}
 use mathlib.Core.List.{List, [], _∷_, List·Memᴰ as Mem, List·Memᴰ·head as here, List·Memᴰ·tail as there, Memᴰ·append-left as in-left, Memᴰ·append-right as in-right}
 use native.Mathlib.Omega.{arith}
 use native.Mathlib.Decide.{decLt}
@@ -12,7 +13,7 @@ use Rattle.nodes.specs.Nodes.{base, nodeAt, putNode, headerAt}
 use Rattle.nodes.specs.Laws.{length-node, byte-node, node-same}
 use Rattle.pool.specs.Frame.{Clear, Frame}
 use Rattle.pool.specs.Plan.{Plan, leaf, node, numbers, number, rootNode}
-use Rattle.pool.specs.Image.{Holds, HoldsFree}
+use Rattle.pool.specs.Image.{Holds, HoldsTree, HoldsFree, numbersOr}
 
 pub clear : (i j k : ℕ) → i ≢ j → base j ≤ k → k < base j + 32 → Clear k i
 clear i j k d p q = elim (decLt i j) [ yes l ↦ inr (omega arith) | no g ↦ inl (omega arith) ]
@@ -45,6 +46,11 @@ pub holds-frame : (T : Plan) (m m′ : List ℕ) → Holds m T → ((j : ℕ) �
 holds-frame (leaf i e) m m′ q f = f i (here refl) ∙ q
 holds-frame (node i h low l r) m m′ q f =
     (f i (here refl) ∙ q .0, holds-frame l m m′ (q .1) (λ j s. f j (there (in-left (numbers r) s))), holds-frame r m m′ (q .2) (λ j s. f j (there (in-right (numbers l) s))))
+
+-- the same if there is a tree
+pub tree-frame : (X : Option Plan) (m m′ : List ℕ) → HoldsTree m X → ((j : ℕ) → Mem j (numbersOr X) → nodeAt m′ j ≡ nodeAt m j) → HoldsTree m′ X
+tree-frame none m m′ q f = tt
+tree-frame (some T) m m′ q f = holds-frame T m m′ q f
 
 -- and on the free nodes, those
 pub free-frame : (is : List ℕ) (m m′ : List ℕ) → HoldsFree m is → ((j : ℕ) → Mem j is → nodeAt m′ j ≡ nodeAt m j) → HoldsFree m′ is

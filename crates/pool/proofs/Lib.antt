@@ -1,5 +1,7 @@
 pub mod Numbers
 pub mod Frame
+pub mod Words
+pub mod Headers
 pub mod Subtree
 pub mod Root
 pub mod Placed

@@ -73,3 +73,7 @@ times-below n (x ∷ xs) h = (small, times-below n xs (λ i l. omega (arith, h i
 pub below-mem : {n i : ℕ} {xs : List ℕ} → AllBelow n xs → Mem i xs → i < n
 below-mem {n} {i} {xs = x ∷ xs} b (here e) = omega (arith, b .0)
 below-mem {n} {i} {xs = x ∷ xs} b (there m) = below-mem (b .1) m
+
+-- a list that has no number more often is below what the other is below
+pub below-part : (n : ℕ) (xs ys : List ℕ) → ((j : ℕ) → times j ys ≤ times j xs) → AllBelow n xs → AllBelow n ys
+below-part n xs ys f b = times-below n ys (λ j h. omega (arith, f j, below-times n xs b j h))

@@ -8,9 +8,10 @@ use native.Mathlib.Decide.{decLt}
 use native.Mathlib.Nat.{le-refl, le-trans, mul-le-mul-right, div-add-mod', pow-suc}
 use lib.Dec.{T}
 use Rattle.rules.specs.State.{Entry}
-use Rattle.rules.specs.Tree.{Tree, empty}
+use Rattle.rules.specs.Tree.{Tree, empty, first}
 use Rattle.rules.specs.Shape.{full, Canonical, none, one, two, on-left, on-right}
 use Rattle.pool.specs.Plan.{Plan, leaf, node, treeIn}
+use Rattle.pool.specs.Subtree.{heightOf}
 
 -- T holds keys of from .. to − 1
 pub data Placed : ℕ → ℕ → Plan → Type 0 where
@@ -104,16 +105,6 @@ entryOr d empty = d
 entryOr d (Tree.leaf e) = e
 entryOr d (Tree.node h low l r) = d
 
-abbrev heightOf : Tree → ℕ
-heightOf empty = 0
-heightOf (Tree.leaf e) = 0
-heightOf (Tree.node h low l r) = h
-
-abbrev lowOf : Tree → ℕ
-lowOf empty = 0
-lowOf (Tree.leaf e) = 0
-lowOf (Tree.node h low l r) = low
-
 abbrev leftOf : Tree → Tree
 leftOf empty = empty
 leftOf (Tree.leaf e) = empty
@@ -131,7 +122,7 @@ canonical-placed (one {h = k} {low = from} {e = y} a b) q e (leaf i x) s = subst
 canonical-placed (one a b) q e (node i h low l r) s = absurd (omega (arith, ap form s))
 canonical-placed (two fl fr cl cr) q e (leaf i x) s = absurd (omega (arith, ap form s))
 canonical-placed (two {h = h} {low = low} {l = tl} {r = tr} fl fr cl cr) q e (node i h′ low′ l r) s =
-    whole h low q e i h′ low′ l r (ap heightOf s) (ap lowOf s)
+    whole h low q e i h′ low′ l r (ap heightOf s) (ap first s)
     (canonical-placed cl (q + q) (halved low q h e) l (ap leftOf s))
     (placed-widen (omega arith) (omega arith) (canonical-placed cr (q + q + 1) (middled low q h e) r (ap rightOf s)))
 canonical-placed (on-left {h = h} {low = low} c) q e P s = placed-widen (omega arith) (omega arith) (canonical-placed c (q + q) (halved low q h e) P s)

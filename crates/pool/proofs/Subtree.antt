@@ -17,6 +17,7 @@ use Rattle.rules.specs.Shape as trees
 use Rattle.pool.specs.Plan.{Plan, leaf, node, treeIn, numbers, leafNode, rootNode}
 use Rattle.pool.specs.Image.{AllBelow}
 use Rattle.pool.proofs.Frame.{root-holds}
+use Rattle.pool.proofs.Words.{leaf-height}
 use Rattle.pool.specs.Subtree.{StandsAt, Rooted, startAt, endAt}
 
 -- HALVES
@@ -98,19 +99,6 @@ root-spans (node i h low l r) f = let x = halved f in record { high = x .high; s
 -- node i is as the tree there says
 pub node-reads : {m : List ℕ} {i : ℕ} (T : Plan) → StandsAt m i T → nodeAt m i ≡ rootNode T
 node-reads {m} {i} T s = subst (λ (x : ℕ). nodeAt m x ≡ rootNode T) (s .root) (root-holds T m (s .holds))
-
--- a leaf's height, key and write position, live or not
-pub leaf-height : (k w : ℕ) (o : Option ℕ) → leafNode k w o .height ≡ 0
-leaf-height k w none = refl
-leaf-height k w (some x) = refl
-
-pub leaf-low : (k w : ℕ) (o : Option ℕ) → leafNode k w o .low ≡ k
-leaf-low k w none = refl
-leaf-low k w (some x) = refl
-
-pub leaf-newest : (k w : ℕ) (o : Option ℕ) → leafNode k w o .newest ≡ w
-leaf-newest k w none = refl
-leaf-newest k w (some x) = refl
 
 -- THE CHILDREN
 

@@ -1,11 +1,12 @@
--- A tree with the number of each of its nodes, and what each node's words are (docs/LAYOUT.md).
+-- A tree with the number of each of its nodes, and what each node's words are (docs/LAYOUT.md; an inner node's stand in nodes/specs).
 -- Assumes nothing: these are definitions.
 use Prim.Native.Nat.{ℕ, _/_, _%_, _^_}
 use mathlib.Core.List.{List, [], _∷_, _++_}
 use mathlib.Core.Option.{Option, none, some}
 use Rattle.nodes.specs.declared.node.Node.{Node}
+use Rattle.nodes.specs.Nodes.{innerNode}
 use Rattle.rules.specs.State.{Entry}
-use Rattle.rules.specs.Tree.{Tree, empty, newest, oldest}
+use Rattle.rules.specs.Tree.{Tree, empty, newest, oldest, noTombstone}
 
 -- a leaf: its number and its entry; an inner node: its number, height and least number covered, and its subtrees
 pub data Plan : Type 0 where
@@ -27,22 +28,22 @@ abbrev pub numbers : Plan → List ℕ
 numbers (leaf i e) = i ∷ []
 numbers (node i h low l r) = i ∷ (numbers l ++ numbers r)
 
--- the word that says "none"
+-- the number that names no node
 abbrev pub noNode : ℕ
 noNode = 4294967295
 
+-- the height of a free node
+abbrev pub freeHeight : ℕ
+freeHeight = 4294967295
+
 -- a leaf's words
 abbrev pub leafNode : ℕ → ℕ → Option ℕ → Node
-leafNode k w (some x) = record { height = 0; low = k; newest = w; oldest = noNode; left = x / 2 ^ 32; right = x % 2 ^ 32; kind = 1; spare = 0 }
+leafNode k w (some x) = record { height = 0; low = k; newest = w; oldest = noTombstone; left = x / 2 ^ 32; right = x % 2 ^ 32; kind = 1; spare = 0 }
 leafNode k w none = record { height = 0; low = k; newest = w; oldest = w; left = 0; right = 0; kind = 2; spare = 0 }
-
--- an inner node's words
-abbrev pub innerNode : ℕ → ℕ → ℕ → ℕ → ℕ → ℕ → Node
-innerNode h low new old l r = record { height = h; low = low; newest = new; oldest = old; left = l; right = r; kind = 0; spare = 0 }
 
 -- a free node's words: the next free node, and how many free nodes there are from it on
 abbrev pub freeNode : ℕ → ℕ → Node
-freeNode next rank = record { height = noNode; low = next; newest = rank; oldest = 0; left = 0; right = 0; kind = 0; spare = 0 }
+freeNode next rank = record { height = freeHeight; low = next; newest = rank; oldest = 0; left = 0; right = 0; kind = 0; spare = 0 }
 
 -- what stands at the root
 abbrev pub rootNode : Plan → Node

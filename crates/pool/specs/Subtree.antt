@@ -5,9 +5,16 @@ use mathlib.Core.Path.{_≡_}
 use mathlib.Core.List.{List}
 use lib.ListN.{length}
 use Rattle.nodes.specs.Nodes.{nodeAt}
+use Rattle.rules.specs.Tree.{Tree, empty}
 use Rattle.rules.specs.Shape.{Canonical}
 use Rattle.pool.specs.Plan.{Plan, treeIn, number, numbers}
 use Rattle.pool.specs.Image.{AllBelow, Holds}
+
+-- the height of a tree's root: 0 at a leaf
+abbrev pub heightOf : Tree → ℕ
+heightOf empty = 0
+heightOf (Tree.leaf e) = 0
+heightOf (Tree.node h low l r) = h
 
 -- the bytes hold the tree T at node i, within the pool; its nodes stand where keys first differ
 pub record StandsAt (m : List ℕ) (i : ℕ) (T : Plan) : Type 0 where

@@ -9,19 +9,23 @@ use native.Mathlib.Omega.{arith}
 use lib.ListN.{length}
 use Rattle.nodes.specs.declared.node.Node.{Node}
 use Rattle.nodes.specs.Nodes.{base, nodeAt, putNode}
+use Rattle.nodes.specs.Mended.{mended}
 use Rattle.rules.specs.State.{Entry}
-use Rattle.pool.specs.Plan.{Plan, leaf, node, number, rootNode}
+use Rattle.rules.specs.Tree.{first}
+use Rattle.pool.specs.Plan.{Plan, leaf, node, treeIn, number, rootNode}
+use Rattle.pool.specs.Subtree.{heightOf}
 use Rattle.pool.specs.Image.{Holds}
 use Rattle.pool.proofs.Frame.{root-holds}
-use Rattle.put.specs.declared.tree.Rooted.{Rooted}
-use Rattle.put.specs.Storing.{covered, firstOfPlan}
-use Rattle.put.specs.Writes.{splitMem, hookMem}
+use Rattle.put.specs.declared.tree.AfterPut.{AfterPut}
+use Rattle.put.specs.Storing.{covered}
+use Rattle.put.specs.Writes.{splitMem}
 use Rattle.put.specs.Places.{leafOf, Falls, Place, PutReady, Puts}
-use Rattle.put.proofs.Roots.{heightOf, root-height, root-low, entry-low}
+use Rattle.pool.proofs.Words.{root-height, root-low}
+use Rattle.put.proofs.Roots.{entry-low}
 use Rattle.put.proofs.Steps.{still-in, root-counted, has-not, room-a, room-b, leaf-step, split-step}
 use Rattle.put.proofs.Under.{place-left, place-right, left-rooms, right-rooms, left-step, right-step}
 
-falls-height : (T : Plan) (t : ℕ) → Falls t T → heightOf T ≤ t
+falls-height : (T : Plan) (t : ℕ) → Falls t T → heightOf (treeIn T) ≤ t
 falls-height (leaf i x) t f = omega arith
 falls-height (node i h low l r) t f = f .1
 
@@ -31,7 +35,7 @@ module _ (m : List ℕ) (i : ℕ) (l : Node) (a b : ℕ) where
   read-root n q T at h = q ∙ ap (λ (z : ℕ). nodeAt m z) (sym at) ∙ root-holds T m h
 
   -- and a test on them is one of the root
-  test-root : (n : Node) (T : Plan) (e : Entry) (t : Bool) → n ≡ rootNode T → l ≡ leafOf e → covered (n .low) (n .height) (l .low) ≡ t → covered (firstOfPlan T) (heightOf T) (e .key) ≡ t
+  test-root : (n : Node) (T : Plan) (e : Entry) (t : Bool) → n ≡ rootNode T → l ≡ leafOf e → covered (n .low) (n .height) (l .low) ≡ t → covered (first (treeIn T)) (heightOf (treeIn T)) (e .key) ≡ t
   test-root n T e t v is c = rw (← root-low T, ← root-height T, ← entry-low e, ← v, ← is) c
 
   test-half : (n : Node) (j h low : ℕ) (x y : Plan) (e : Entry) (t : Bool) → n ≡ rootNode (node j h low x y) → l ≡ leafOf e → covered (n .low) (n .height - 1) (l .low) ≡ t → covered low (h - 1) (e .key) ≡ t
@@ -91,9 +95,9 @@ module _ (m : List ℕ) (i : ℕ) (l : Node) (a b : ℕ) where
                 record { tree = x; entry = e; at = refl; is = is; place = sub },
               )
 
-      pub left-hook : PutReady m i l a b → (m1 : List ℕ) (s : Rooted) → Puts m (n .left) l a b m1 s
+      pub left-mend : PutReady m i l a b → (m1 : List ℕ) (s : AfterPut) → Puts m (n .left) l a b m1 s
           → (base i + 32 ≤ length m1) × (base (s .root) + 32 ≤ length m1) × (base (n .right) + 32 ≤ length m1)
-      left-hook g m1 s f = go (g .tree) (g .entry) (g .at) (g .is) (g .place)
+      left-mend g m1 s f = go (g .tree) (g .entry) (g .at) (g .is) (g .place)
         where
           go : (T : Plan) (e : Entry) → number T ≡ i → l ≡ leafOf e → Place m T e a b → (base i + 32 ≤ length m1) × (base (s .root) + 32 ≤ length m1) × (base (n .right) + 32 ≤ length m1)
           go (leaf j x) e at is p = absurd (no-leaf j x at (p .holds))
@@ -105,7 +109,7 @@ module _ (m : List ℕ) (i : ℕ) (l : Node) (a b : ℕ) where
               let rooms = left-rooms m j h low x y e a b p cov lft in
               rw (ap (λ (k : Node). k .right) v, sub .root-is, sub .frame .length-kept, ← at) rooms
 
-      pub left-case : (m1 : List ℕ) (s : Rooted) → Puts m (n .left) l a b m1 s → (m′ : List ℕ) → m′ ≡ hookMem m1 i n (s .root) (n .right) → Puts m i l a b m′ (record { root = i; new = s .new })
+      pub left-case : (m1 : List ℕ) (s : AfterPut) → Puts m (n .left) l a b m1 s → (m′ : List ℕ) → m′ ≡ mended m1 i (n .height) (n .low) (s .root) (n .right) → Puts m i l a b m′ (record { root = i; new = s .new })
       left-case m1 s f m′ w (leaf j x) e at is p = absurd (no-leaf j x at (p .holds))
       left-case m1 s f m′ w (node j h low x y) e at is p =
           let v = read-root n q (node j h low x y) at (p .holds) in
@@ -131,9 +135,9 @@ module _ (m : List ℕ) (i : ℕ) (l : Node) (a b : ℕ) where
                 record { tree = y; entry = e; at = refl; is = is; place = sub },
               )
 
-      pub right-hook : PutReady m i l a b → (m1 : List ℕ) (s : Rooted) → Puts m (n .right) l a b m1 s
+      pub right-mend : PutReady m i l a b → (m1 : List ℕ) (s : AfterPut) → Puts m (n .right) l a b m1 s
           → (base i + 32 ≤ length m1) × (base (n .left) + 32 ≤ length m1) × (base (s .root) + 32 ≤ length m1)
-      right-hook g m1 s f = go (g .tree) (g .entry) (g .at) (g .is) (g .place)
+      right-mend g m1 s f = go (g .tree) (g .entry) (g .at) (g .is) (g .place)
         where
           go : (T : Plan) (e : Entry) → number T ≡ i → l ≡ leafOf e → Place m T e a b → (base i + 32 ≤ length m1) × (base (n .left) + 32 ≤ length m1) × (base (s .root) + 32 ≤ length m1)
           go (leaf j x) e at is p = absurd (no-leaf j x at (p .holds))
@@ -145,7 +149,7 @@ module _ (m : List ℕ) (i : ℕ) (l : Node) (a b : ℕ) where
               let rooms = right-rooms m j h low x y e a b p cov rgt in
               rw (ap (λ (k : Node). k .left) v, sub .root-is, sub .frame .length-kept, ← at) rooms
 
-      pub right-case : (m1 : List ℕ) (s : Rooted) → Puts m (n .right) l a b m1 s → (m′ : List ℕ) → m′ ≡ hookMem m1 i n (n .left) (s .root) → Puts m i l a b m′ (record { root = i; new = s .new })
+      pub right-case : (m1 : List ℕ) (s : AfterPut) → Puts m (n .right) l a b m1 s → (m′ : List ℕ) → m′ ≡ mended m1 i (n .height) (n .low) (n .left) (s .root) → Puts m i l a b m′ (record { root = i; new = s .new })
       right-case m1 s f m′ w (leaf j x) e at is p = absurd (no-leaf j x at (p .holds))
       right-case m1 s f m′ w (node j h low x y) e at is p =
           let v = read-root n q (node j h low x y) at (p .holds) in

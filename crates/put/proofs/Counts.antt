@@ -10,11 +10,11 @@ use lib.Dec.{ltb}
 use Rattle.bits.specs.Bits.{partHeight}
 use Rattle.words.specs.Choice.{if_then_else_}
 use Rattle.rules.specs.State.{Entry}
-use Rattle.rules.specs.Tree.{entries}
+use Rattle.rules.specs.Tree.{entries, first}
 use Rattle.pool.specs.Plan.{Plan, leaf, node, treeIn, number, numbers}
 use Rattle.pool.specs.Times.{times}
 use Rattle.pool.proofs.Numbers.{times-append}
-use Rattle.put.specs.Storing.{covered, firstOfPlan, has, beside, putPlan}
+use Rattle.put.specs.Storing.{covered, has, beside, putPlan}
 
 -- the nodes that a new key takes
 abbrev pub taken : Bool → ℕ → ℕ → List ℕ
@@ -24,10 +24,10 @@ taken false a b = a ∷ b ∷ []
 module _ (a b : ℕ) (e : Entry) (j : ℕ) where
   times-beside : (T : Plan) → times j (numbers (beside a b e T)) ≡ times j (numbers T) + times j (a ∷ b ∷ [])
   unfolding times
-  times-beside T = go (ltb (e .key) (firstOfPlan T))
+  times-beside T = go (ltb (e .key) (first (treeIn T)))
     where
       h : ℕ
-      h = partHeight (firstOfPlan T) (e .key)
+      h = partHeight (first (treeIn T)) (e .key)
 
       go : (s : Bool) → times j (numbers (if s then node a h (e .key / 2 ^ h * 2 ^ h) (leaf b e) T else node a h (e .key / 2 ^ h * 2 ^ h) T (leaf b e))) ≡ times j (numbers T) + times j (a ∷ b ∷ [])
       go true = omega arith
@@ -61,10 +61,10 @@ node-count (node i h low l r) =
 -- the same of how many there are
 module _ (a b : ℕ) (e : Entry) where
   length-beside : (T : Plan) → length (numbers (beside a b e T)) ≡ length (numbers T) + 2
-  length-beside T = go (ltb (e .key) (firstOfPlan T))
+  length-beside T = go (ltb (e .key) (first (treeIn T)))
     where
       h : ℕ
-      h = partHeight (firstOfPlan T) (e .key)
+      h = partHeight (first (treeIn T)) (e .key)
 
       go : (s : Bool) → length (numbers (if s then node a h (e .key / 2 ^ h * 2 ^ h) (leaf b e) T else node a h (e .key / 2 ^ h * 2 ^ h) T (leaf b e))) ≡ length (numbers T) + 2
       go true = omega arith

@@ -3,22 +3,23 @@
 use Prim.Native.Nat.{ℕ, _+_, _*_, _^_, _≤_, _<_}
 use mathlib.Core.Path.{_≡_, ap, _∙_}
 use mathlib.Core.Bool.{Bool, true, false}
-use mathlib.Core.List.{List, [], _∷_, _++_}
+use mathlib.Core.List.{List, _++_}
 use mathlib.Core.Option.{Option, none, some}
 use native.Mathlib.Omega.{arith}
 use lib.ListN.{length, getD}
 use Rattle.words.specs.Word.{Bytes}
 use Rattle.nodes.specs.declared.header.Header.{Header}
 use Rattle.nodes.specs.Nodes.{base, headerAt, putHeader}
-use Rattle.nodes.specs.Laws.{NodeFits, HeaderFits, header-put, length-header, bytes-header, byte-header, node-header}
+use Rattle.nodes.specs.Laws.{NodeFits}
 use Rattle.words.specs.Choice.{if_then_else_}
 use Rattle.rules.specs.State.{Entry, Fits, lastPosition}
-use Rattle.pool.specs.Plan.{Plan, leaf, node, numbers, leafNode}
-use Rattle.pool.specs.Image.{Arrangement, Arranged, Image, Holds, HoldsTree, HoldsFree, AllBelow, firstOf, headerOf, stateOf, rootOr, numbersOr}
+use Rattle.pool.specs.Plan.{Plan, leaf, numbers, leafNode}
+use Rattle.pool.specs.Image.{Arrangement, Arranged, Image, Holds, HoldsTree, HoldsFree, firstOf, headerOf, stateOf, rootOr}
 use Rattle.pool.specs.Times.{times}
 use Rattle.pool.proofs.Numbers.{times-append, times-mem, mem-times, distinct-times, below-mem}
 use Rattle.pool.specs.Frame.{Frame}
-use Rattle.pool.proofs.Frame.{frame-node, frame-front, holds-frame, free-frame}
+use Rattle.pool.proofs.Frame.{frame-node, frame-front, free-frame}
+use Rattle.pool.proofs.Headers.{image-of}
 use Rattle.put.specs.declared.value.Value.{Value}
 use Rattle.put.specs.Values.{payloadStored, entryOf}
 use Rattle.put.specs.Storing.{has, restOf, treeAfter, freeAfter, putIn}
@@ -43,58 +44,9 @@ pub record Body (m : List ℕ) (A : Arrangement) : Type 0 where
 pub body-image : (m : List ℕ) (A : Arrangement) → Body m A → headerAt m ≡ headerOf A → Image m A
 body-image m A b h = record { arranged = b .arranged; size = b .size; bytes = b .bytes; header = h; zeros = b .zeros; tree = b .tree; free = b .free }
 
-root-small : (n : ℕ) (o : Option Plan) (is : List ℕ) → n ≤ 131072 → AllBelow n (numbersOr o ++ is) → rootOr o < 4294967296
-root-small n none is l b = omega arith
-root-small n (some (leaf i x)) is l b = omega (arith, b .0)
-root-small n (some (node i h low x y)) is l b = omega (arith, b .0)
-
-first-small : (n : ℕ) (xs is : List ℕ) → n ≤ 131072 → AllBelow n (xs ++ is) → firstOf is < 4294967296
-first-small n [] [] l b = omega arith
-first-small n [] (i ∷ is) l b = omega (arith, b .0)
-first-small n (x ∷ xs) [] l b = omega arith
-first-small n (x ∷ xs) (i ∷ is) l b = first-small n xs (i ∷ is) l (b .1)
-
--- an arrangement's header fits its words
-header-of-fits : (A : Arrangement) → Arranged A → HeaderFits (headerOf A)
-header-of-fits A q =
-    let n = q .lawful .limit-N in
-    let z = q .lawful .limit-Z in
-    let p = q .lawful .last in
-    let few = q .lawful .few in (
-      omega arith,
-      (
-        omega arith,
-        (
-          omega arith,
-          (
-            omega arith,
-            (
-              omega arith,
-              (
-                root-small (2 * A .N) (A .tree) (A .free) (omega arith) (q .below),
-                (first-small (2 * A .N) (numbersOr (A .tree)) (A .free) (omega arith) (q .below), tt),
-              ),
-            ),
-          ),
-        ),
-      ),
-    )
-
-holds-header : (o : Option Plan) (m : List ℕ) (h : Header) → HoldsTree m o → HoldsTree (putHeader m h) o
-holds-header none m h q = tt
-holds-header (some T) m h q = holds-frame T m (putHeader m h) q (λ j s. node-header m h j)
-
 -- the header written last
 pub body-header : (m : List ℕ) (A : Arrangement) → Body m A → (h : Header) → h ≡ headerOf A → Image (putHeader m h) A
-body-header m A b h q = record {
-  arranged = b .arranged;
-  size = length-header m h ∙ b .size;
-  bytes = bytes-header m h (b .bytes);
-  header = header-put m h (omega (arith, b .size)) (rw q (header-of-fits A (b .arranged))) ∙ q;
-  zeros = λ k u v. byte-header m h k u ∙ b .zeros k u v;
-  tree = holds-header (A .tree) m h (b .tree);
-  free = free-frame (A .free) m (putHeader m h) (b .free) (λ j s. node-header m h j);
-}
+body-header m A b h q = rw q (image-of m A (b .arranged) (b .size) (b .bytes) (b .zeros) (b .tree) (b .free))
 
 -- one more key
 pub grown-is : (A : Arrangement) (e : Entry) (h : Header) (root free : ℕ) → h ≡ headerOf A → length (stateOf (putIn A e) .kept) ≡ length (stateOf A .kept) + 1

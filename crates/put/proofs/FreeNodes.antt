@@ -3,7 +3,7 @@
 use Prim.Native.Nat.{ℕ, _+_, _*_, _≤_}
 use mathlib.Core.Path.{_≡_, refl, sym, ap, _∙_}
 use mathlib.Core.Logic.{_≢_}
-use mathlib.Core.List.{List, [], _∷_, _++_}
+use mathlib.Core.List.{List, [], _∷_}
 use native.Mathlib.Omega.{arith}
 use lib.ListN.{length}
 use borrow.Author.Tests.{eq-eqb, ne-eqb}
@@ -34,10 +34,6 @@ first-room m n [] b l q = absurd (q refl)
 first-room m n (i ∷ is) b l q = omega (arith, b .0)
 
 -- parts of what is below, and of what is held
-pub below-right : (n : ℕ) (xs ys : List ℕ) → AllBelow n (xs ++ ys) → AllBelow n ys
-below-right n [] ys b = b
-below-right n (x ∷ xs) ys b = below-right n xs ys (b .1)
-
 pub below-rest : (n : ℕ) (is : List ℕ) → AllBelow n is → AllBelow n (restOf is)
 below-rest n [] b = tt
 below-rest n (i ∷ is) b = b .1

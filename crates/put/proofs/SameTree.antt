@@ -15,7 +15,8 @@ use Rattle.rules.specs.Shape.{Canonical}
 use Rattle.pool.specs.Plan.{Plan, leaf, node, treeIn, number, numbers, leafNode}
 use Rattle.pool.specs.Image.{Arrangement, Image, headerOf, Holds, HoldsTree, AllBelow, treeOr, rootOr, numbersOr, stateOf}
 use Rattle.put.specs.Places.{Falls}
-use Rattle.put.proofs.Roots.{root-height, entry-low, entry-newest}
+use Rattle.pool.proofs.Words.{root-height}
+use Rattle.put.proofs.Roots.{entry-low, entry-newest}
 use Rattle.put.proofs.Shape.{root-of}
 use Rattle.put.proofs.Arranging.{arranged-canonical}
 

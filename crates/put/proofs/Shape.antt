@@ -15,12 +15,12 @@ use Rattle.bits.proofs.Part.{part-is}
 use Rattle.words.specs.Choice.{if_then_else_}
 use Rattle.rules.specs.State.{Entry}
 use Rattle.rules.specs.Tree as Trees
-use Rattle.rules.specs.Tree.{Tree, empty}
+use Rattle.rules.specs.Tree.{Tree, empty, first}
 use Rattle.rules.proofs.Tests.{yes-lt, no-lt, le-or-lt, is-true, same, and-of, left-of, right-of, yes-eq}
 use Rattle.rules.specs.Shape.{Canonical, none, one, two, on-left, on-right}
 use Rattle.rules.proofs.Insert.{fork, insert}
 use Rattle.pool.specs.Plan.{Plan, leaf, node, treeIn}
-use Rattle.put.specs.Storing.{covered, firstOfPlan, beside, putPlan}
+use Rattle.put.specs.Storing.{covered, beside, putPlan}
 
 -- ALIGNED COVERS
 
@@ -182,11 +182,11 @@ covered-low : (low h : ℕ) → covered low h low ≡ true
 unfolding covered
 covered-low low h = rw (is-true (leb low low) (le→leb low low (le-refl low)), yes-lt {a = low} {b = low + 2 ^ h} (omega (arith, pow-pos h)))
 
-tree-beside : (a b : ℕ) (e : Entry) (T : Plan) → treeIn (beside a b e T) ≡ parted (firstOfPlan T) e (treeIn T)
-tree-beside a b e T = go (ltb (e .key) (firstOfPlan T))
+tree-beside : (a b : ℕ) (e : Entry) (T : Plan) → treeIn (beside a b e T) ≡ parted (first (treeIn T)) e (treeIn T)
+tree-beside a b e T = go (ltb (e .key) (first (treeIn T)))
   where
     h : ℕ
-    h = partHeight (firstOfPlan T) (e .key)
+    h = partHeight (first (treeIn T)) (e .key)
 
     low : ℕ
     low = e .key / 2 ^ h * 2 ^ h
@@ -197,7 +197,7 @@ tree-beside a b e T = go (ltb (e .key) (firstOfPlan T))
 
 module _ (a b : ℕ) (e : Entry) where
   -- a key that a node does not cover
-  apart : (top from h low : ℕ) (T : Plan) → firstOfPlan T ≡ low → Aligned top from → from + 2 ^ top ≤ 2 ^ 32 → from ≤ e .key → e .key < from + 2 ^ top → from ≤ low → low < from + 2 ^ top
+  apart : (top from h low : ℕ) (T : Plan) → first (treeIn T) ≡ low → Aligned top from → from + 2 ^ top ≤ 2 ^ 32 → from ≤ e .key → e .key < from + 2 ^ top → from ≤ low → low < from + 2 ^ top
       → covered low h (e .key) ≡ false → treeIn (beside a b e T) ≡ fork top from e low (treeIn T)
   apart top from h low T q al f u v w z c =
       let n : e .key ≢ low = λ s. let t : _≡_ {A = Bool} true false = sym (covered-low low h) ∙ rw s at c in true≢false t in

@@ -5,9 +5,8 @@ use mathlib.Core.Path.{_≡_}
 use mathlib.Core.List.{List}
 use Rattle.bits.specs.Bits.{partHeight}
 use Rattle.nodes.specs.declared.node.Node.{Node}
-use Rattle.nodes.specs.Nodes.{putNode}
+use Rattle.nodes.specs.Nodes.{putNode, innerNode}
 use Rattle.rules.proofs.Tests.{yes-lt, no-lt}
-use Rattle.pool.specs.Plan.{innerNode}
 use Rattle.put.specs.Writes.{splitMem}
 
 -- the leaf on the left, and on the right

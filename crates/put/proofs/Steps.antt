@@ -14,16 +14,18 @@ use Rattle.nodes.specs.Nodes.{base, nodeAt, putNode}
 use Rattle.nodes.specs.Laws.{NodeFits, node-fits, node-put, node-apart, bytes-node, length-node}
 use Rattle.words.specs.Choice.{if_then_else_}
 use Rattle.rules.specs.State.{Entry}
-use Rattle.pool.specs.Plan.{Plan, leaf, node, number, numbers, rootNode}
+use Rattle.rules.specs.Tree.{first}
+use Rattle.pool.specs.Plan.{Plan, leaf, node, treeIn, number, numbers, rootNode}
+use Rattle.pool.specs.Subtree.{heightOf}
 use Rattle.pool.specs.Image.{Holds}
 use Rattle.pool.specs.Times.{bit, times}
 use Rattle.pool.proofs.Numbers.{times-append, times-same, mem-times}
 use Rattle.pool.proofs.Frame.{frame-put, frame-widen, frame-then, holds-frame, root-holds, root-in}
-use Rattle.put.specs.Storing.{covered, firstOfPlan, has, beside, putPlan}
+use Rattle.put.specs.Storing.{covered, has, beside, putPlan}
 use Rattle.put.specs.Writes.{forkNode, splitMem}
 use Rattle.put.specs.Places.{leafOf, Falls, Place, Done}
 use Rattle.put.proofs.Counts.{taken, times-put}
-use Rattle.put.proofs.Roots.{heightOf, fork-node, fork-fits}
+use Rattle.put.proofs.Roots.{fork-node, fork-fits}
 
 -- NUMBERS AND PLACES
 
@@ -67,32 +69,32 @@ leaf-step m i x e a b p c = record {
 
 -- A KEY THAT THE TREE DOES NOT COVER
 
-put-beside : (a b : ℕ) (e : Entry) (T : Plan) → covered (firstOfPlan T) (heightOf T) (e .key) ≡ false → putPlan a b e T ≡ beside a b e T
+put-beside : (a b : ℕ) (e : Entry) (T : Plan) → covered (first (treeIn T)) (heightOf (treeIn T)) (e .key) ≡ false → putPlan a b e T ≡ beside a b e T
 unfolding putPlan
 put-beside a b e (leaf i x) c = rw c
 put-beside a b e (node i h low l r) c = rw c
 
 -- a tree has no key that it does not cover
-pub has-not : (e : Entry) (T : Plan) → covered (firstOfPlan T) (heightOf T) (e .key) ≡ false → has (e .key) T ≡ false
+pub has-not : (e : Entry) (T : Plan) → covered (first (treeIn T)) (heightOf (treeIn T)) (e .key) ≡ false → has (e .key) T ≡ false
 unfolding has
 has-not e (leaf i x) c = c
 has-not e (node i h low l r) c = rw c
 
 beside-root : (a b : ℕ) (e : Entry) (T : Plan) → a ≡ number (beside a b e T)
-beside-root a b e T = go (ltb (e .key) (firstOfPlan T))
+beside-root a b e T = go (ltb (e .key) (first (treeIn T)))
   where
     h : ℕ
-    h = partHeight (firstOfPlan T) (e .key)
+    h = partHeight (first (treeIn T)) (e .key)
 
     go : (s : Bool) → a ≡ number (if s then node a h (e .key / 2 ^ h * 2 ^ h) (leaf b e) T else node a h (e .key / 2 ^ h * 2 ^ h) T (leaf b e))
     go true = refl
     go false = refl
 
 holds-beside : (m : List ℕ) (a b : ℕ) (e : Entry) (T : Plan) → nodeAt m a ≡ rootNode (beside a b e T) → nodeAt m b ≡ leafOf e → Holds m T → Holds m (beside a b e T)
-holds-beside m a b e T p q r = go (ltb (e .key) (firstOfPlan T)) p
+holds-beside m a b e T p q r = go (ltb (e .key) (first (treeIn T))) p
   where
     h : ℕ
-    h = partHeight (firstOfPlan T) (e .key)
+    h = partHeight (first (treeIn T)) (e .key)
 
     low : ℕ
     low = e .key / 2 ^ h * 2 ^ h
@@ -155,7 +157,7 @@ module _ (m : List ℕ) (T : Plan) (e : Entry) (a b : ℕ) (p : Place m T e a b)
   at-tree = holds-frame T m _ (p .holds) (λ j s. node-apart (putNode m b (leafOf e)) a j _ (a-apart j s) ∙ node-apart m b j (leafOf e) (b-apart j s))
 
   -- the leaf and the inner node are written
-  pub split-step : covered (firstOfPlan T) (heightOf T) (e .key) ≡ false → Done m T e a b (splitMem m (number T) (rootNode T) (leafOf e) a b) (record { root = a; new = true })
+  pub split-step : covered (first (treeIn T)) (heightOf (treeIn T)) (e .key) ≡ false → Done m T e a b (splitMem m (number T) (rootNode T) (leafOf e) a b) (record { root = a; new = true })
   unfolding splitMem fork-put
   split-step c = record {
     bytes = bytes-node _ a _ (bytes-node m b _ (p .bytes));

@@ -1,54 +1,28 @@
 -- The way back: a node above a subtree in which the entry was stored, with newest and oldest mended.
 -- Assumes nothing.
-use Prim.Native.Nat.{ℕ, _+_, _-_, _≤_, _<_, max, min}
+use Prim.Native.Nat.{ℕ, _+_, _-_, _^_, _≤_, _<_}
 use mathlib.Core.Path.{_≡_, refl, ap, _∙_}
 use mathlib.Core.Bool.{true, false}
 use mathlib.Core.List.{List}
 use native.Mathlib.Omega.{arith}
 use lib.ListN.{length}
 use lib.Dec.{eqb}
-use Rattle.words.specs.Word.{Bytes}
 use Rattle.nodes.specs.declared.node.Node.{Node}
-use Rattle.nodes.specs.Nodes.{base, nodeAt, putNode}
-use Rattle.nodes.specs.Laws.{NodeFits, node-fits, node-put, node-apart, bytes-node}
+use Rattle.nodes.specs.Nodes.{base}
+use Rattle.nodes.specs.Mended.{mended}
+use Rattle.nodes.specs.Laws.{node-fits, bytes-node}
 use Rattle.rules.specs.State.{Entry}
-use Rattle.rules.specs.Tree.{newest, oldest}
-use Rattle.pool.specs.Plan.{Plan, node, treeIn, number, numbers, innerNode, rootNode}
+use Rattle.pool.specs.Plan.{Plan, node, number, numbers}
 use Rattle.pool.specs.Image.{Holds}
 use Rattle.pool.specs.Times.{bit, times}
 use Rattle.pool.proofs.Numbers.{mem-times}
 use Rattle.pool.specs.Frame.{Frame}
-use Rattle.pool.proofs.Frame.{frame-put, frame-widen, frame-then, frame-node, holds-frame, root-holds}
-use Rattle.put.specs.declared.tree.Rooted.{Rooted}
+use Rattle.pool.proofs.Frame.{frame-put, frame-widen, frame-then, frame-node, holds-frame}
+use Rattle.pool.proofs.Words.{mended-holds}
+use Rattle.put.specs.declared.tree.AfterPut.{AfterPut}
 use Rattle.put.specs.Storing.{covered, has, putPlan}
-use Rattle.put.specs.Writes.{hookMem}
 use Rattle.put.specs.Places.{Place, Done}
-use Rattle.put.proofs.Roots.{root-newest, root-oldest, inner-fits}
 use Rattle.put.proofs.Steps.{times-node, bit-same, still-in, root-counted, small, falls-up}
-
--- A NODE ABOVE TWO TREES
-
--- node i is written above them, with the larger newest and the smaller oldest
-pub hook-holds : (m : List ℕ) (i : ℕ) (n : Node) (l r : Plan) → Holds m l → Holds m r → Bytes m → base i + 32 ≤ length m → n .height < 4294967296 → n .low < 4294967296
-    → number l < 4294967296 → number r < 4294967296 → times i (numbers l) ≡ 0 → times i (numbers r) ≡ 0
-    → Holds (hookMem m i n (number l) (number r)) (node i (n .height) (n .low) l r)
-unfolding hookMem newest oldest
-hook-holds m i n l r p q b room hf lf nl nr il ir =
-    let root-l = root-holds l m p in
-    let root-r = root-holds r m q in
-    let newest-l : nodeAt m (number l) .newest ≡ newest (treeIn l) = ap (λ (x : Node). x .newest) root-l ∙ root-newest l in
-    let newest-r : nodeAt m (number r) .newest ≡ newest (treeIn r) = ap (λ (x : Node). x .newest) root-r ∙ root-newest r in
-    let oldest-l : nodeAt m (number l) .oldest ≡ oldest (treeIn l) = ap (λ (x : Node). x .oldest) root-l ∙ root-oldest l in
-    let oldest-r : nodeAt m (number r) .oldest ≡ oldest (treeIn r) = ap (λ (x : Node). x .oldest) root-r ∙ root-oldest r in
-    let fits-l = node-fits m (number l) b in
-    let fits-r = node-fits m (number r) b in
-    let w : Node = innerNode (n .height) (n .low) (max (newest (treeIn l)) (newest (treeIn r))) (min (oldest (treeIn l)) (oldest (treeIn r))) (number l) (number r) in
-    let fits : NodeFits w = inner-fits hf lf (omega (arith, fits-l .1 .1 .0, fits-r .1 .1 .0)) (omega (arith, fits-l .1 .1 .1 .0, fits-r .1 .1 .1 .0)) nl nr in
-    rw (newest-l, newest-r, oldest-l, oldest-r) (
-      node-put m i w room fits,
-      holds-frame l m (putNode m i w) p (λ j s. node-apart m i j w (λ d. omega (arith, mem-times s, ap (λ (z : ℕ). times z (numbers l)) d))),
-      holds-frame r m (putNode m i w) q (λ j s. node-apart m i j w (λ d. omega (arith, mem-times s, ap (λ (z : ℕ). times z (numbers r)) d))),
-    )
 
 -- a tree whose nodes were not written is as it was
 pub other-holds : (O S : Plan) (m m1 : List ℕ) → Holds m O → Frame m m1 (λ j. 1 ≤ times j (numbers S)) → ((j : ℕ) → times j (numbers S) + times j (numbers O) ≤ 1) → Holds m1 O
@@ -59,7 +33,7 @@ module _ (m : List ℕ) (i h low : ℕ) (l r : Plan) (e : Entry) (a b : ℕ) (p 
   room-i : base i + 32 ≤ length m
   room-i = p .inside i (still-in a b e (node i h low l r) i (root-counted (node i h low l r)))
 
-  words-fit : (h < 4294967296) × (low < 4294967296)
+  words-fit : (h < 2 ^ 32) × (low < 2 ^ 32)
   words-fit =
       let f = node-fits m i (p .bytes) in
       let q = p .holds .0 in
@@ -99,9 +73,9 @@ module _ (m : List ℕ) (i h low : ℕ) (l r : Plan) (e : Entry) (a b : ℕ) (p 
     )
 
     -- the node above the stored subtree
-    pub left-step : (m1 : List ℕ) (s : Rooted) → Done m l e a b m1 s
-        → Done m (node i h low l r) e a b (hookMem m1 i (rootNode (node i h low l r)) (s .root) (number r)) (record { root = i; new = s .new })
-    unfolding hookMem
+    pub left-step : (m1 : List ℕ) (s : AfterPut) → Done m l e a b m1 s
+        → Done m (node i h low l r) e a b (mended m1 i h low (s .root) (number r)) (record { root = i; new = s .new })
+    unfolding mended
     left-step m1 s q =
         let rooms = left-rooms in
         let len = q .frame .length-kept in
@@ -110,9 +84,9 @@ module _ (m : List ℕ) (i h low : ℕ) (l r : Plan) (e : Entry) (a b : ℕ) (p 
         let self = bit-same i i refl in
         record {
           bytes = bytes-node m1 i _ (q .bytes);
-          holds = rw (put-left, q .root-is) (hook-holds m1 i (rootNode (node i h low l r)) (putPlan a b e l) r (q .holds)
+          holds = rw (put-left, q .root-is) (mended-holds m1 i h low (putPlan a b e l) r (omega (arith, rooms .0)) (q .bytes) (q .holds)
               (other-holds r (putPlan a b e l) m m1 (p .holds .2) (q .frame) (λ j. omega (arith, p .once j, count-left j)))
-              (q .bytes) (omega (arith, rooms .0)) (words-fit .0) (words-fit .1) (small p _ (rooms .1)) (small p _ (rooms .2)) (omega arith) (omega arith));
+              (words-fit .0) (words-fit .1) (small p _ (rooms .1)) (small p _ (rooms .2)) (λ t. omega (arith, mem-times t)) (λ t. omega (arith, mem-times t)));
           root-is = rw put-left;
           new-is = rw has-left (q .new-is);
           frame = frame-then (frame-widen (q .frame) (λ j t. omega (arith, count-left j))) (frame-widen (frame-put m1 i _) (λ j t. omega (arith, count-left j, bit-same j i t)));
@@ -152,9 +126,9 @@ module _ (m : List ℕ) (i h low : ℕ) (l r : Plan) (e : Entry) (a b : ℕ) (p 
     )
 
     -- the node above the stored subtree
-    pub right-step : (m1 : List ℕ) (s : Rooted) → Done m r e a b m1 s
-        → Done m (node i h low l r) e a b (hookMem m1 i (rootNode (node i h low l r)) (number l) (s .root)) (record { root = i; new = s .new })
-    unfolding hookMem
+    pub right-step : (m1 : List ℕ) (s : AfterPut) → Done m r e a b m1 s
+        → Done m (node i h low l r) e a b (mended m1 i h low (number l) (s .root)) (record { root = i; new = s .new })
+    unfolding mended
     right-step m1 s q =
         let rooms = right-rooms in
         let len = q .frame .length-kept in
@@ -163,9 +137,9 @@ module _ (m : List ℕ) (i h low : ℕ) (l r : Plan) (e : Entry) (a b : ℕ) (p 
         let self = bit-same i i refl in
         record {
           bytes = bytes-node m1 i _ (q .bytes);
-          holds = rw (put-right, q .root-is) (hook-holds m1 i (rootNode (node i h low l r)) l (putPlan a b e r)
+          holds = rw (put-right, q .root-is) (mended-holds m1 i h low l (putPlan a b e r) (omega (arith, rooms .0)) (q .bytes)
               (other-holds l (putPlan a b e r) m m1 (p .holds .1) (q .frame) (λ j. omega (arith, p .once j, count-right j)))
-              (q .holds) (q .bytes) (omega (arith, rooms .0)) (words-fit .0) (words-fit .1) (small p _ (rooms .1)) (small p _ (rooms .2)) (omega arith) (omega arith));
+              (q .holds) (words-fit .0) (words-fit .1) (small p _ (rooms .1)) (small p _ (rooms .2)) (λ t. omega (arith, mem-times t)) (λ t. omega (arith, mem-times t)));
           root-is = rw put-right;
           new-is = rw has-right (q .new-is);
           frame = frame-then (frame-widen (q .frame) (λ j t. omega (arith, count-right j))) (frame-widen (frame-put m1 i _) (λ j t. omega (arith, count-right j, bit-same j i t)));

@@ -15,10 +15,10 @@ use Rattle.nodes.specs.Laws.{node-put, bytes-node}
 use Rattle.rules.specs.State.{Entry}
 use Rattle.rules.specs.Tree.{entries}
 use Rattle.pool.specs.Plan.{Plan, leaf, node, treeIn, number, numbers, leafNode, noNode}
-use Rattle.pool.specs.Image.{Arrangement, Image, AllBelow, numbersOr, firstOf, headerOf}
+use Rattle.pool.specs.Image.{Arrangement, Image, AllBelow, firstOf, headerOf}
 use Rattle.pool.specs.Times.{times}
 use Rattle.pool.proofs.Frame.{frame-put, frame-widen, frame-header}
-use Rattle.put.specs.declared.tree.Rooted.{Rooted}
+use Rattle.put.specs.declared.tree.AfterPut.{AfterPut}
 use Rattle.put.specs.declared.value.Value.{Value}
 use Rattle.put.specs.Values.{payloadStored, entryOf}
 use Rattle.put.specs.Storing.{has, putPlan, restOf, putIn}
@@ -26,7 +26,8 @@ use Rattle.put.specs.Places.{leafOf, Place, Done, PutReady, Puts}
 use Rattle.put.specs.Asks.{Roomy, LeafOf, nextOf, grown}
 use Rattle.put.proofs.Arranging.{Storable, arranged-canonical, enough, leaves-put}
 use Rattle.put.proofs.Counts.{root-put}
-use Rattle.put.proofs.FreeNodes.{next-first, first-room, below-right, below-rest, holds-rest}
+use Rattle.pool.proofs.Headers.{free-below}
+use Rattle.put.proofs.FreeNodes.{next-first, first-room, below-rest, holds-rest}
 use Rattle.put.proofs.Steps.{bit-same}
 use Rattle.put.proofs.SameTree.{canonical-falls}
 use Rattle.put.proofs.Finish.{body-image, body-header, grown-is, storable, entry-fits, after, once-all, inside-all, body-put}
@@ -62,19 +63,19 @@ module _ (m : List ℕ) (k : ℕ) (v : Value) (hd : Header) (l : Node) (g : Room
   few-nodes : (A : Arrangement) → Image m A → 2 * A .N ≤ 131072
   few-nodes A a = omega (arith, a .arranged .lawful .limit-N .1)
 
-  free-below : (A : Arrangement) → Image m A → AllBelow (2 * A .N) (A .free)
-  free-below A a = below-right (2 * A .N) (numbersOr (A .tree)) (A .free) (a .arranged .below)
+  below-free : (A : Arrangement) → Image m A → AllBelow (2 * A .N) (A .free)
+  below-free A a = free-below A (a .arranged)
 
   first-is : (A : Arrangement) → Image m A → hd .free ≡ firstOf (A .free)
   first-is A a = ap (λ (h : Header). h .free) (read A a)
 
   second-is : (A : Arrangement) → Image m A → (second : ℕ) → second ≡ nextOf m (hd .free) → second ≡ firstOf (restOf (A .free))
-  second-is A a second q = q ∙ ap (λ (z : ℕ). nextOf m z) (first-is A a) ∙ next-first m (2 * A .N) (A .free) (few-nodes A a) (free-below A a) (a .free)
+  second-is A a second q = q ∙ ap (λ (z : ℕ). nextOf m z) (first-is A a) ∙ next-first m (2 * A .N) (A .free) (few-nodes A a) (below-free A a) (a .free)
 
   third-is : (A : Arrangement) → Image m A → (second third : ℕ) → second ≡ nextOf m (hd .free) → third ≡ nextOf m second → third ≡ firstOf (restOf (restOf (A .free)))
   third-is A a second third q r =
       r ∙ ap (λ (z : ℕ). nextOf m z) (second-is A a second q)
-      ∙ next-first m (2 * A .N) (restOf (A .free)) (few-nodes A a) (below-rest (2 * A .N) (A .free) (free-below A a)) (holds-rest m (A .free) (a .free))
+      ∙ next-first m (2 * A .N) (restOf (A .free)) (few-nodes A a) (below-rest (2 * A .N) (A .free) (below-free A a)) (holds-rest m (A .free) (a .free))
 
   -- THE CALLS
 
@@ -84,14 +85,14 @@ module _ (m : List ℕ) (k : ℕ) (v : Value) (hd : Header) (l : Node) (g : Room
       let A = g .arrangement in
       let a = g .image in
       let q = first-is A a in
-      rw q (first-room m (2 * A .N) (A .free) (free-below A a) (omega (arith, a .size)) (λ z. n (q ∙ z)))
+      rw q (first-room m (2 * A .N) (A .free) (below-free A a) (omega (arith, a .size)) (λ z. n (q ∙ z)))
 
   pub second-asks : (second : ℕ) → second ≡ nextOf m (hd .free) → second ≢ noNode → base second + 32 ≤ length m
   second-asks second r n =
       let A = g .arrangement in
       let a = g .image in
       let q = second-is A a second r in
-      rw q (first-room m (2 * A .N) (restOf (A .free)) (below-rest (2 * A .N) (A .free) (free-below A a)) (omega (arith, a .size)) (λ z. n (q ∙ z)))
+      rw q (first-room m (2 * A .N) (restOf (A .free)) (below-rest (2 * A .N) (A .free) (below-free A a)) (omega (arith, a .size)) (λ z. n (q ∙ z)))
 
   -- WITHOUT A TREE
 
@@ -108,7 +109,7 @@ module _ (m : List ℕ) (k : ℕ) (v : Value) (hd : Header) (l : Node) (g : Room
       go N Z p (some T) free a = absurd (no-tree N Z p T free a z)
       go N Z p none [] a = let A = arr N Z p none [] in absurd (omega (arith, enough A (a .arranged) (ent p) (can A a)))
       go N Z p none (f ∷ is) a = let A = arr N Z p none (f ∷ is) in
-          (first-asks (λ q. omega (arith, first-is A a, free-below A a .0, few-nodes A a)), omega (arith, ap (λ (h : Header). h .kept) (read A a)))
+          (first-asks (λ q. omega (arith, first-is A a, below-free A a .0, few-nodes A a)), omega (arith, ap (λ (h : Header). h .kept) (read A a)))
 
   pub first-leaf : hd .root ≡ noNode → (second : ℕ) → second ≡ nextOf m (hd .free) → (m1 : List ℕ) → m1 ≡ putNode m (hd .free) l → (h′ : Header) → h′ ≡ grown hd (hd .free) second
       → (m′ : List ℕ) → m′ ≡ putHeader m1 h′ → (A : Arrangement) → Image m A → Image m′ (putIn A (ent (A .p)))
@@ -159,7 +160,7 @@ module _ (m : List ℕ) (k : ℕ) (v : Value) (hd : Header) (l : Node) (g : Room
         go N Z p none free a = absurd (no-empty N Z p free a z)
         go N Z p (some T) free a = record { tree = T; entry = ent p; at = root-is N Z p T free a; is = leaf-is (arr N Z p (some T) free) a; place = place N Z p T free a }
 
-    module _ (m1 : List ℕ) (s : Rooted) (f : Puts m (hd .root) l (hd .free) second m1 s) where
+    module _ (m1 : List ℕ) (s : AfterPut) (f : Puts m (hd .root) l (hd .free) second m1 s) where
       done : (N Z p : ℕ) (T : Plan) (free : List ℕ) → Image m (arr N Z p (some T) free) → Done m T (ent p) (firstOf free) (firstOf (restOf free)) m1 s
       done N Z p T free a =
           let A = arr N Z p (some T) free in

@@ -14,7 +14,7 @@ use Rattle.pool.specs.Plan.{Plan, leaf, node, number, numbers, leafNode}
 use Rattle.pool.specs.Image.{Holds}
 use Rattle.pool.specs.Times.{times}
 use Rattle.pool.specs.Frame.{Frame}
-use Rattle.put.specs.declared.tree.Rooted.{Rooted}
+use Rattle.put.specs.declared.tree.AfterPut.{AfterPut}
 use Rattle.put.specs.Storing.{has, putPlan}
 
 -- an entry's leaf
@@ -41,7 +41,7 @@ pub record Place (m : List ℕ) (T : Plan) (e : Entry) (a b : ℕ) : Type 0 wher
   pub leaf-fits : NodeFits (leafOf e)
 
 -- what storing e leaves: the tree with e stored, and every byte outside its nodes
-pub record Done (m : List ℕ) (T : Plan) (e : Entry) (a b : ℕ) (m′ : List ℕ) (r : Rooted) : Type 0 where
+pub record Done (m : List ℕ) (T : Plan) (e : Entry) (a b : ℕ) (m′ : List ℕ) (r : AfterPut) : Type 0 where
   pub bytes : Bytes m′
   pub holds : Holds m′ (putPlan a b e T)
   pub root-is : r .root ≡ number (putPlan a b e T)
@@ -57,5 +57,5 @@ pub record PutReady (m : List ℕ) (i : ℕ) (l : Node) (a b : ℕ) : Type 0 whe
   pub place : Place m tree entry a b
 
 -- every tree at i has the leaf stored in it
-abbrev pub Puts : List ℕ → ℕ → Node → ℕ → ℕ → List ℕ → Rooted → Type 0
+abbrev pub Puts : List ℕ → ℕ → Node → ℕ → ℕ → List ℕ → AfterPut → Type 0
 Puts m i l a b m′ r = (T : Plan) (e : Entry) → number T ≡ i → l ≡ leafOf e → Place m T e a b → Done m T e a b m′ r

@@ -8,17 +8,13 @@ use lib.Dec.{ltb, leb}
 use Rattle.bits.specs.Bits.{partHeight}
 use Rattle.words.specs.Choice.{if_then_else_}
 use Rattle.rules.specs.State.{Entry}
-use Rattle.pool.specs.Plan.{Plan, leaf, node}
+use Rattle.rules.specs.Tree.{first}
+use Rattle.pool.specs.Plan.{Plan, leaf, node, treeIn}
 use Rattle.pool.specs.Image.{Arrangement, firstOf}
 
 -- k lies in low .. low + 2 ^ h − 1
 unfoldable pub covered : ℕ → ℕ → ℕ → Bool
 covered low h k = leb low k && ltb k (low + 2 ^ h)
-
--- the least number that a tree's root covers
-abbrev pub firstOfPlan : Plan → ℕ
-firstOfPlan (leaf i x) = x .key
-firstOfPlan (node i h low l r) = low
 
 -- whether the tree has a leaf of key k, by one descent
 unfoldable pub has : ℕ → Plan → Bool
@@ -28,9 +24,9 @@ has k (node i h low l r) = if covered low h k then (if covered low (h - 1) k the
 -- a tree and a new leaf b of a key that the tree does not cover, below a new inner node a: it stands where the key and the tree part
 abbrev pub beside : ℕ → ℕ → Entry → Plan → Plan
 beside a b e T =
-    let h = partHeight (firstOfPlan T) (e .key) in
+    let h = partHeight (first (treeIn T)) (e .key) in
     let low = e .key / 2 ^ h * 2 ^ h in
-    if ltb (e .key) (firstOfPlan T) then node a h low (leaf b e) T else node a h low T (leaf b e)
+    if ltb (e .key) (first (treeIn T)) then node a h low (leaf b e) T else node a h low T (leaf b e)
 
 -- e stored in a tree: instead of the entry of its key, or as a new leaf b below a new inner node a
 unfoldable pub putPlan : ℕ → ℕ → Entry → Plan → Plan

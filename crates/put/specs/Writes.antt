@@ -1,13 +1,12 @@
--- What the two steps of a put that write inner nodes leave, on the pool's bytes.
+-- What the step of a put that takes two free nodes leaves, on the pool's bytes.
 -- Assumes nothing: these are definitions.
 use Prim.Native.Nat.{ℕ, _*_, _/_, _^_, max, min}
 use mathlib.Core.List.{List}
 use lib.Dec.{ltb}
 use Rattle.bits.specs.Bits.{partHeight}
 use Rattle.nodes.specs.declared.node.Node.{Node}
-use Rattle.nodes.specs.Nodes.{nodeAt, putNode}
+use Rattle.nodes.specs.Nodes.{putNode, innerNode}
 use Rattle.words.specs.Choice.{if_then_else_}
-use Rattle.pool.specs.Plan.{innerNode}
 
 -- the inner node above a leaf, which is node b, and node i, which holds n
 abbrev pub forkNode : ℕ → Node → Node → ℕ → Node
@@ -21,8 +20,3 @@ forkNode i n leaf b =
 -- the leaf as node b, and the inner node as node a
 unfoldable pub splitMem : List ℕ → ℕ → Node → Node → ℕ → ℕ → List ℕ
 splitMem m i n leaf a b = putNode (putNode m b leaf) a (forkNode i n leaf b)
-
--- node i, which held n, above two children as they are now
-unfoldable pub hookMem : List ℕ → ℕ → Node → ℕ → ℕ → List ℕ
-hookMem m i n l r =
-    putNode m i (innerNode (n .height) (n .low) (max (nodeAt m l .newest) (nodeAt m r .newest)) (min (nodeAt m l .oldest) (nodeAt m r .oldest)) l r)

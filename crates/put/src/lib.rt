@@ -3,6 +3,7 @@ mod tree;
 mod value;
 
 use nodes::Header;
+use nodes::NO_NODE;
 use nodes::read_header;
 use nodes::read_node;
 use nodes::write_header;
@@ -25,8 +26,8 @@ fn next_free(pool: &[u8], i: u32) -> u32
     requires { ⌜ ((i ≡ noNode → ⊥) → base i + 32 ≤ length (now pool)) ⌝ }
     ensures { λ r. ⌜ r ≡ nextOf (now (pool .entry)) i ⌝ }
 {
-    if i == 4294967295 {
-        return 4294967295;
+    if i == NO_NODE {
+        return NO_NODE;
     }
     let n = read_node(pool, i);
     n.low
@@ -57,14 +58,14 @@ pub fn put(pool: &mut [u8], key: u32, value: Value)
     let leaf = leaf_of(key, header.position, value);
     let first = header.free;
     let second = next_free(pool, first);
-    if header.root == 4294967295 {
+    if header.root == NO_NODE {
         write_node(pool, first, leaf);
         write_header(pool, with_key(header, first, second));
         return;
     }
     let third = next_free(pool, second);
-    let rooted = put_at(pool, header.root, leaf, first, second);
-    if rooted.new {
-        write_header(pool, with_key(header, rooted.root, third));
+    let after = put_at(pool, header.root, leaf, first, second);
+    if after.new {
+        write_header(pool, with_key(header, after.root, third));
     }
 }

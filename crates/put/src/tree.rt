@@ -3,33 +3,24 @@ use bits::above;
 use bits::cut;
 use bits::part_height;
 use nodes::Node;
+use nodes::inner;
+use nodes::larger;
+use nodes::mend;
 use nodes::read_node;
+use nodes::smaller;
 use nodes::write_node;
 ghost use mathlib.Core.Path.{_≡_};
-ghost use Prim.Native.Nat.{_+_, _≤_, max, min};
+ghost use Prim.Native.Nat.{_+_, _≤_};
 ghost use lib.ListN.{length};
 ghost use Rattle.nodes.specs.Nodes.{base};
-ghost use Rattle.pool.specs.Plan.{innerNode};
 ghost use Rattle.put.specs.Storing.{covered};
-ghost use Rattle.put.specs.Writes.{hookMem, splitMem};
+ghost use Rattle.put.specs.Writes.{splitMem};
 ghost use Rattle.put.specs.Places.{PutReady, Puts};
 
 // Where the tree's root is afterwards, and whether its key was not there before.
-pub struct Rooted {
+pub struct AfterPut {
     pub root: u32,
     pub new: bool,
-}
-
-fn larger(x: u32, y: u32) -> u32
-    ensures { λ r. ⌜ r ≡ max x y ⌝ }
-{
-    if x < y { y } else { x }
-}
-
-fn smaller(x: u32, y: u32) -> u32
-    ensures { λ r. ⌜ r ≡ min x y ⌝ }
-{
-    if x < y { x } else { y }
 }
 
 // Whether a node at this height from low on covers the key.
@@ -41,21 +32,6 @@ fn covers(low: u32, height: u32, key: u32) -> bool
         return false;
     }
     above(key - low, height) == 0
-}
-
-fn inner(height: u32, low: u32, newest: u32, oldest: u32, left: u32, right: u32) -> Node
-    ensures { λ r. ⌜ r ≡ innerNode height low newest oldest left right ⌝ }
-{
-    Node {
-        height,
-        low,
-        newest,
-        oldest,
-        left,
-        right,
-        kind: 0,
-        spare: 0,
-    }
 }
 
 // The leaf as node b, and a new inner node a above it and node i, which holds n, where the two part.
@@ -75,20 +51,8 @@ fn split(pool: &mut [u8], i: u32, n: Node, leaf: Node, a: u32, b: u32)
     }
 }
 
-// Node i, which held n, above its children as they are now.
-fn hook(pool: &mut [u8], i: u32, n: Node, left: u32, right: u32)
-    requires { ⌜ (base i + 32 ≤ length (now pool)) × (base left + 32 ≤ length (now pool)) × (base right + 32 ≤ length (now pool)) ⌝ }
-    ensures { λ _. ⌜ now (pool .exit) ≡ hookMem (now (pool .entry)) i n left right ⌝ }
-{
-    let l = read_node(pool, left);
-    let r = read_node(pool, right);
-    let newest = larger(l.newest, r.newest);
-    let oldest = smaller(l.oldest, r.oldest);
-    write_node(pool, i, inner(n.height, n.low, newest, oldest, left, right));
-}
-
 // Stores the leaf in the tree at node i; a and b are the nodes that a new key takes.
-pub fn put_at(pool: &mut [u8], i: u32, leaf: Node, a: u32, b: u32) -> Rooted
+pub fn put_at(pool: &mut [u8], i: u32, leaf: Node, a: u32, b: u32) -> AfterPut
     requires { ⌜ PutReady (now pool) i leaf a b ⌝ }
     ensures { λ r. ⌜ Puts (now (pool .entry)) i leaf a b (now (pool .exit)) r ⌝ }
 {
@@ -96,26 +60,26 @@ pub fn put_at(pool: &mut [u8], i: u32, leaf: Node, a: u32, b: u32) -> Rooted
     if covers(n.low, n.height, leaf.low) {
         if n.height == 0 {
             write_node(pool, i, leaf);
-            return Rooted {
+            return AfterPut {
                 root: i,
                 new: false,
             };
         }
         if covers(n.low, n.height - 1, leaf.low) {
             let under = put_at(pool, n.left, leaf, a, b);
-            hook(pool, i, n, under.root, n.right);
-            return Rooted {
+            mend(pool, i, n.height, n.low, under.root, n.right);
+            return AfterPut {
                 root: i,
                 new: under.new,
             };
         }
         let under = put_at(pool, n.right, leaf, a, b);
-        hook(pool, i, n, n.left, under.root);
-        return Rooted {
+        mend(pool, i, n.height, n.low, n.left, under.root);
+        return AfterPut {
             root: i,
             new: under.new,
         };
     }
     split(pool, i, n, leaf, a, b);
-    Rooted { root: a, new: true }
+    AfterPut { root: a, new: true }
 }

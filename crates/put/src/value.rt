@@ -1,4 +1,5 @@
 // What a put or a delete stores for a key.
+use nodes::NO_TOMBSTONE;
 use nodes::Node;
 ghost use mathlib.Core.Path.{_≡_};
 ghost use mathlib.Core.Option.{none, some};
@@ -20,7 +21,7 @@ fn live(key: u32, position: u32, payload: u64) -> Node
         height: 0,
         low: key,
         newest: position,
-        oldest: 4294967295,
+        oldest: NO_TOMBSTONE,
         left: (payload / 4294967296) as u32,
         right: (payload % 4294967296) as u32,
         kind: 1,

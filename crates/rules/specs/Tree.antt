@@ -9,7 +9,7 @@ use Rattle.record.specs.Record.{Rec}
 use Rattle.record.specs.declared.point.Scan.{Scan}
 use Rattle.words.specs.Choice.{if_then_else_}
 use Rattle.rules.specs.Lists.{keep}
-use Rattle.rules.specs.State.{Entry, State, isLive, lastPosition}
+use Rattle.rules.specs.State.{Entry, State, isLive}
 use Rattle.rules.specs.Footprint.{reach, meets}
 use Rattle.rules.specs.Verdict.{Verdict, committed, conflict, tooOld, noRoom, malformed, ahead, positionsUsedUp, verdict}
 
@@ -62,10 +62,14 @@ newest empty = 0
 newest (leaf e) = e .position
 newest (node h low l r) = max (newest l) (newest r)
 
--- the smallest position of a tombstone in a subtree, the last position if there is none: a pool keeps it to find old tombstones by
+-- the number that says "no tombstone here"
+abbrev pub noTombstone : ℕ
+noTombstone = 4294967295
+
+-- the smallest position of a tombstone in a subtree, noTombstone if there is none: a pool keeps it to find old tombstones by
 unfoldable pub oldest : Tree → ℕ
-oldest empty = lastPosition
-oldest (leaf e) = if isLive (e .payload) then lastPosition else e .position
+oldest empty = noTombstone
+oldest (leaf e) = if isLive (e .payload) then noTombstone else e .position
 oldest (node h low l r) = min (oldest l) (oldest r)
 
 -- the first number that a node covers: "A leaf covers its key. An inner node covers every 32-bit number that shares its

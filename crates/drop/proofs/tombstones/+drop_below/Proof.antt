@@ -12,7 +12,7 @@ use Rattle.drop.proofs.tombstones.drop_below.Kinds as drop-below-kinds
 use Rattle.drop.proofs.tombstones.+drop_below.Lts-drop_below as lts
 use Rattle.nodes.proofs.read_node.Reads as read-node-reads
 use Rattle.drop.proofs.tombstones.free_node.Reads as free-node-reads
-use Rattle.drop.proofs.tombstones.mend.Reads as mend-reads
+use Rattle.nodes.proofs.mend.Reads as mend-reads
 use Rattle.drop.proofs.tombstones.+drop_below.{statement}
 use Rattle.drop.proofs.tombstones.+drop_below.Tie.{close}
 

@@ -6,14 +6,14 @@ use borrow.Fn.PlainCycle.{Measures, is, falls, and}
 use mathlib.Core.Path.{sym, _∙_}
 use native.Mathlib.Omega.{arith}
 use Rattle.nodes.specs.Nodes.{nodeAt}
-use Rattle.put.proofs.Cases.{ready-room, ready-height, split-rooms, leaf-case, split-case, left-asks, left-hook, left-case, right-asks, right-hook, right-case}
+use Rattle.put.proofs.Cases.{ready-room, ready-height, split-rooms, leaf-case, split-case, left-asks, left-mend, left-case, right-asks, right-mend, right-case}
 use Rattle.put.proofs.tree.put_at.Reads as put-at
 use Rattle.put.proofs.tree.put_at.Kinds as put-at-kinds
 use Rattle.put.proofs.tree.+put_at.Lts-put_at as lts
 use Rattle.nodes.proofs.read_node.Reads as read-node-reads
 use Rattle.nodes.proofs.write_node.Reads as write-node-reads
 use Rattle.put.proofs.tree.covers.Reads as covers-reads
-use Rattle.put.proofs.tree.hook.Reads as hook-reads
+use Rattle.nodes.proofs.mend.Reads as mend-reads
 use Rattle.put.proofs.tree.split.Reads as split-reads
 use Rattle.put.proofs.tree.+put_at.{statement}
 use Rattle.put.proofs.tree.+put_at.Tie.{close}
@@ -38,8 +38,8 @@ calls t = (
   write-node-reads.Learnt,
   below t,
   put-at.Post,
-  hook-reads.Asked,
-  hook-reads.Learnt,
+  mend-reads.Asked,
+  mend-reads.Learnt,
   split-reads.Asked,
   split-reads.Learnt,
 )
@@ -74,36 +74,36 @@ put-at-put-at-requires t c κs =
     let s = c .before .before .before .before .before .before .before .before .before .before .before in
     left-asks (s .args .pool .now) (s .args .i) (s .args .leaf) (s .args .a) (s .args .b) (c .before .before .before .before .before .before .before .before .read-node .result) (c .before .before .before .before .before .before .before .before .read-node .ensures) (sym (c .before .before .before .before .before .before .before .covers .ensures) ∙ c .before .before .before .before .before .before .if1 .taken) (c .before .before .before .before .if2 .left) (sym (c .before .before .covers2 .ensures) ∙ c .before .if3 .taken) t (s .pre .0) (s .pre .1)
 
-put-at-hook-requires : (t : ℕ) → lts.Need-hook-requires (calls t) (at t) put-at.Post
-put-at-hook-requires t c κs =
+put-at-mend-requires : (t : ℕ) → lts.Need-mend-requires (calls t) (at t) put-at.Post
+put-at-mend-requires t c κs =
     let s = c .before .before .before .before .before .before .before .before .before .before .before .before .before .before .before in
-    left-hook (s .args .pool .now) (s .args .i) (s .args .leaf) (s .args .a) (s .args .b) (c .before .before .before .before .before .before .before .before .before .before .before .before .read-node .result) (c .before .before .before .before .before .before .before .before .before .before .before .before .read-node .ensures) (sym (c .before .before .before .before .before .before .before .before .before .before .before .covers .ensures) ∙ c .before .before .before .before .before .before .before .before .before .before .if1 .taken) (c .before .before .before .before .before .before .before .before .if2 .left) (sym (c .before .before .before .before .before .before .covers2 .ensures) ∙ c .before .before .before .before .before .if3 .taken) (s .pre .1) (c .before .before .before .put-at .last .0) (c .before .before .before .put-at .result) (c .before .before .before .put-at .ensures)
+    left-mend (s .args .pool .now) (s .args .i) (s .args .leaf) (s .args .a) (s .args .b) (c .before .before .before .before .before .before .before .before .before .before .before .before .read-node .result) (c .before .before .before .before .before .before .before .before .before .before .before .before .read-node .ensures) (sym (c .before .before .before .before .before .before .before .before .before .before .before .covers .ensures) ∙ c .before .before .before .before .before .before .before .before .before .before .if1 .taken) (c .before .before .before .before .before .before .before .before .if2 .left) (sym (c .before .before .before .before .before .before .covers2 .ensures) ∙ c .before .before .before .before .before .if3 .taken) (s .pre .1) (c .before .before .before .put-at .last .0) (c .before .before .before .put-at .result) (c .before .before .before .put-at .ensures)
 
 put-at-same-length-2 : (t : ℕ) → lts.Need-same-length-2 (calls t) (at t) put-at.Post
-put-at-same-length-2 t c = c .before .before .hook .kept .0 ∙ c .before .before .before .before .before .before .put-at .kept .0
+put-at-same-length-2 t c = c .before .before .mend .kept .0 ∙ c .before .before .before .before .before .before .put-at .kept .0
 
 put-at-returns-2 : (t : ℕ) → lts.Need-returns-2 (calls t) (at t) put-at.Post
 put-at-returns-2 t c =
     let s = c .before .before .before .before .before .before .before .before .before .before .before .before .before .before .before .before .before .before in
-    left-case (s .args .pool .now) (s .args .i) (s .args .leaf) (s .args .a) (s .args .b) (c .before .before .before .before .before .before .before .before .before .before .before .before .before .before .before .read-node .result) (c .before .before .before .before .before .before .before .before .before .before .before .before .before .before .before .read-node .ensures) (sym (c .before .before .before .before .before .before .before .before .before .before .before .before .before .before .covers .ensures) ∙ c .before .before .before .before .before .before .before .before .before .before .before .before .before .if1 .taken) (c .before .before .before .before .before .before .before .before .before .before .before .if2 .left) (sym (c .before .before .before .before .before .before .before .before .before .covers2 .ensures) ∙ c .before .before .before .before .before .before .before .before .if3 .taken) (c .before .before .before .before .before .before .put-at .last .0) (c .before .before .before .before .before .before .put-at .result) (c .before .before .before .before .before .before .put-at .ensures) (c .before .before .hook .last .0) (c .before .before .hook .ensures)
+    left-case (s .args .pool .now) (s .args .i) (s .args .leaf) (s .args .a) (s .args .b) (c .before .before .before .before .before .before .before .before .before .before .before .before .before .before .before .read-node .result) (c .before .before .before .before .before .before .before .before .before .before .before .before .before .before .before .read-node .ensures) (sym (c .before .before .before .before .before .before .before .before .before .before .before .before .before .before .covers .ensures) ∙ c .before .before .before .before .before .before .before .before .before .before .before .before .before .if1 .taken) (c .before .before .before .before .before .before .before .before .before .before .before .if2 .left) (sym (c .before .before .before .before .before .before .before .before .before .covers2 .ensures) ∙ c .before .before .before .before .before .before .before .before .if3 .taken) (c .before .before .before .before .before .before .put-at .last .0) (c .before .before .before .before .before .before .put-at .result) (c .before .before .before .before .before .before .put-at .ensures) (c .before .before .mend .last .0) (c .before .before .mend .ensures)
 
 put-at-put-at-requires-2 : (t : ℕ) → lts.Need-put-at-requires-2 (calls t) (at t) put-at.Post
 put-at-put-at-requires-2 t c κs =
     let s = c .before .before .before .before .before .before .before .before .before .before .before in
     right-asks (s .args .pool .now) (s .args .i) (s .args .leaf) (s .args .a) (s .args .b) (c .before .before .before .before .before .before .before .before .read-node .result) (c .before .before .before .before .before .before .before .before .read-node .ensures) (sym (c .before .before .before .before .before .before .before .covers .ensures) ∙ c .before .before .before .before .before .before .if1 .taken) (c .before .before .before .before .if2 .left) (sym (c .before .before .covers2 .ensures) ∙ c .before .if3 .left) t (s .pre .0) (s .pre .1)
 
-put-at-hook-requires-2 : (t : ℕ) → lts.Need-hook-requires-2 (calls t) (at t) put-at.Post
-put-at-hook-requires-2 t c κs =
+put-at-mend-requires-2 : (t : ℕ) → lts.Need-mend-requires-2 (calls t) (at t) put-at.Post
+put-at-mend-requires-2 t c κs =
     let s = c .before .before .before .before .before .before .before .before .before .before .before .before .before .before .before in
-    right-hook (s .args .pool .now) (s .args .i) (s .args .leaf) (s .args .a) (s .args .b) (c .before .before .before .before .before .before .before .before .before .before .before .before .read-node .result) (c .before .before .before .before .before .before .before .before .before .before .before .before .read-node .ensures) (sym (c .before .before .before .before .before .before .before .before .before .before .before .covers .ensures) ∙ c .before .before .before .before .before .before .before .before .before .before .if1 .taken) (c .before .before .before .before .before .before .before .before .if2 .left) (sym (c .before .before .before .before .before .before .covers2 .ensures) ∙ c .before .before .before .before .before .if3 .left) (s .pre .1) (c .before .before .before .put-at2 .last .0) (c .before .before .before .put-at2 .result) (c .before .before .before .put-at2 .ensures)
+    right-mend (s .args .pool .now) (s .args .i) (s .args .leaf) (s .args .a) (s .args .b) (c .before .before .before .before .before .before .before .before .before .before .before .before .read-node .result) (c .before .before .before .before .before .before .before .before .before .before .before .before .read-node .ensures) (sym (c .before .before .before .before .before .before .before .before .before .before .before .covers .ensures) ∙ c .before .before .before .before .before .before .before .before .before .before .if1 .taken) (c .before .before .before .before .before .before .before .before .if2 .left) (sym (c .before .before .before .before .before .before .covers2 .ensures) ∙ c .before .before .before .before .before .if3 .left) (s .pre .1) (c .before .before .before .put-at2 .last .0) (c .before .before .before .put-at2 .result) (c .before .before .before .put-at2 .ensures)
 
 put-at-same-length-3 : (t : ℕ) → lts.Need-same-length-3 (calls t) (at t) put-at.Post
-put-at-same-length-3 t c = c .before .before .hook2 .kept .0 ∙ c .before .before .before .before .before .before .put-at2 .kept .0
+put-at-same-length-3 t c = c .before .before .mend2 .kept .0 ∙ c .before .before .before .before .before .before .put-at2 .kept .0
 
 put-at-returns-3 : (t : ℕ) → lts.Need-returns-3 (calls t) (at t) put-at.Post
 put-at-returns-3 t c =
     let s = c .before .before .before .before .before .before .before .before .before .before .before .before .before .before .before .before .before .before in
-    right-case (s .args .pool .now) (s .args .i) (s .args .leaf) (s .args .a) (s .args .b) (c .before .before .before .before .before .before .before .before .before .before .before .before .before .before .before .read-node .result) (c .before .before .before .before .before .before .before .before .before .before .before .before .before .before .before .read-node .ensures) (sym (c .before .before .before .before .before .before .before .before .before .before .before .before .before .before .covers .ensures) ∙ c .before .before .before .before .before .before .before .before .before .before .before .before .before .if1 .taken) (c .before .before .before .before .before .before .before .before .before .before .before .if2 .left) (sym (c .before .before .before .before .before .before .before .before .before .covers2 .ensures) ∙ c .before .before .before .before .before .before .before .before .if3 .left) (c .before .before .before .before .before .before .put-at2 .last .0) (c .before .before .before .before .before .before .put-at2 .result) (c .before .before .before .before .before .before .put-at2 .ensures) (c .before .before .hook2 .last .0) (c .before .before .hook2 .ensures)
+    right-case (s .args .pool .now) (s .args .i) (s .args .leaf) (s .args .a) (s .args .b) (c .before .before .before .before .before .before .before .before .before .before .before .before .before .before .before .read-node .result) (c .before .before .before .before .before .before .before .before .before .before .before .before .before .before .before .read-node .ensures) (sym (c .before .before .before .before .before .before .before .before .before .before .before .before .before .before .covers .ensures) ∙ c .before .before .before .before .before .before .before .before .before .before .before .before .before .if1 .taken) (c .before .before .before .before .before .before .before .before .before .before .before .if2 .left) (sym (c .before .before .before .before .before .before .before .before .before .covers2 .ensures) ∙ c .before .before .before .before .before .before .before .before .if3 .left) (c .before .before .before .before .before .before .put-at2 .last .0) (c .before .before .before .before .before .before .put-at2 .result) (c .before .before .before .before .before .before .put-at2 .ensures) (c .before .before .mend2 .last .0) (c .before .before .mend2 .ensures)
 
 put-at-split-requires : (t : ℕ) → lts.Need-split-requires (calls t) (at t) put-at.Post
 put-at-split-requires t c κs =
@@ -129,11 +129,11 @@ pub +put-at-spec : {M : Type 1} → statement M
     (put-at-sub-covers t)
     (put-at-covers-requires-2 t)
     (put-at-put-at-requires t)
-    (put-at-hook-requires t)
+    (put-at-mend-requires t)
     (put-at-same-length-2 t)
     (put-at-returns-2 t)
     (put-at-put-at-requires-2 t)
-    (put-at-hook-requires-2 t)
+    (put-at-mend-requires-2 t)
     (put-at-same-length-3 t)
     (put-at-returns-3 t)
     (put-at-split-requires t)

@@ -1,11 +1,11 @@
-// The position moved on, with nothing else changed.
+// The position of a fit pool moved on, with nothing else changed.
 use nodes::Header;
 use nodes::read_header;
 use nodes::write_header;
 ghost use Rattle.pool.specs.Image.{Arrangement, Image};
-ghost use Rattle.drop.specs.Drop.{PositionsLeft, movedOn};
+ghost use Rattle.advance.specs.Moved.{PositionsLeft, movedOn};
 
-// The pool one position on. A position is left: p is below 4,294,967,295.
+// The pool one position on. A position is left: p is below LAST_POSITION.
 pub fn advance(pool: &mut [u8])
     requires { ⌜ PositionsLeft (now pool) ⌝ }
     ensures { λ _. ⌜ ((A : Arrangement) → Image (now (pool .entry)) A → Image (now (pool .exit)) (movedOn A)) ⌝ }

@@ -1,9 +1,9 @@
 -- `advance` meets its contract: the header one position on is the header of the arrangement one position on.
 -- Assumes nothing.
 use borrow.Author.Needs.{needs}
-use Rattle.drop.proofs.Whole.{position-left, advance-whole}
-use Rattle.drop.proofs.position.advance.Statement.{statement}
-use Rattle.drop.proofs.position.advance.Tie as tie
+use Rattle.advance.proofs.Moving.{position-left, advance-whole}
+use Rattle.advance.proofs.advance.Statement.{statement}
+use Rattle.advance.proofs.advance.Tie as tie
 
 read-header-requires : tie.Need-read-header-requires
 read-header-requires c κs = search needs

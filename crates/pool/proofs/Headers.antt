@@ -1,22 +1,20 @@
--- A header written over the bytes: they are the image of an arrangement if they hold its tree and its free nodes.
+-- A header written over the bytes: they are the image of an arrangement if they hold its tree and its free nodes. Its words fit; n keys
+-- take 2 · n − 1 nodes, so the number of free nodes tells the number of keys.
 -- Assumes nothing.
-use Prim.Native.Nat.{ℕ, _+_, _-_, _*_, _/_, _≤_, _<_}
+use Prim.Native.Nat.{ℕ, _+_, _-_, _*_, _/_, _^_, _≤_, _<_}
 use native.Mathlib.Omega.{arith}
-use mathlib.Core.Path.{_≡_, refl, sym, ap, _∙_}
-use mathlib.Core.List.{List, _++_}
+use mathlib.Core.Path.{_≡_, refl, sym, _∙_}
+use mathlib.Core.List.{List, [], _∷_, _++_}
 use mathlib.Core.Option.{Option, none, some}
 use lib.ListN.{length, length-append, getD}
 use Rattle.words.specs.Word.{Bytes}
-use Rattle.nodes.specs.declared.header.Header.{Header}
 use Rattle.nodes.specs.Nodes.{putHeader}
 use Rattle.nodes.specs.Laws.{HeaderFits, length-header, bytes-header, byte-header, header-put, node-header}
 use Rattle.rules.specs.Tree.{entries}
 use Rattle.pool.specs.Plan.{Plan, leaf, node, treeIn, number, numbers}
-use Rattle.pool.specs.Image.{Arrangement, Arranged, Image, AllBelow, HoldsTree, HoldsFree, treeOr, rootOr, numbersOr, headerOf}
-use Rattle.pool.proofs.Numbers.{below-mem, times-append}
-use Rattle.pool.proofs.Frame.{free-frame, root-in}
-use Rattle.drop.proofs.Fitting.{below-part}
-use Rattle.drop.proofs.Moves.{first-small, tree-frame}
+use Rattle.pool.specs.Image.{Arrangement, Arranged, Image, AllBelow, HoldsTree, HoldsFree, firstOf, treeOr, rootOr, numbersOr, headerOf}
+use Rattle.pool.proofs.Numbers.{below-mem, below-part, times-append}
+use Rattle.pool.proofs.Frame.{tree-frame, free-frame, root-in}
 
 -- HOW MANY NODES
 
@@ -47,11 +45,16 @@ free-left A g = go (A .tree) (sym (length-append (numbersOr (A .tree)) (A .free)
 pub free-below : (A : Arrangement) → Arranged A → AllBelow (2 * A .N) (A .free)
 free-below A g = below-part (2 * A .N) (numbersOr (A .tree) ++ A .free) (A .free) (λ j. omega (arith, times-append j (numbersOr (A .tree)) (A .free))) (g .below)
 
--- the root's number fits a word
-root-small : (A : Arrangement) → Arranged A → rootOr (A .tree) < 4294967296
+-- the first free node's number fits a word
+pub first-small : (n : ℕ) (F : List ℕ) → n ≤ 131072 → AllBelow n F → firstOf F < 2 ^ 32
+first-small n [] s b = omega arith
+first-small n (i ∷ F) s b = omega (arith, b .0)
+
+-- so does the root's number
+root-small : (A : Arrangement) → Arranged A → rootOr (A .tree) < 2 ^ 32
 root-small A g = go (A .tree) (below-part (2 * A .N) (numbersOr (A .tree) ++ A .free) (numbersOr (A .tree)) (λ j. omega (arith, times-append j (numbersOr (A .tree)) (A .free))) (g .below))
   where
-    go : (X : Option Plan) → AllBelow (2 * A .N) (numbersOr X) → rootOr X < 4294967296
+    go : (X : Option Plan) → AllBelow (2 * A .N) (numbersOr X) → rootOr X < 2 ^ 32
     go none b = omega arith
     go (some T) b = omega (arith, below-mem b (root-in T), g .lawful .limit-N)
 

@@ -1,9 +1,9 @@
--- `put::tree::hook` meets its contract.
+-- `mend` meets its contract: the words that it writes are the children's, as they stood in the bytes lent.
 -- Assumes nothing.
 use borrow.Author.Needs.{needs}
-use Rattle.put.specs.Writes.{hookMem}
-use Rattle.put.proofs.tree.hook.Statement.{statement}
-use Rattle.put.proofs.tree.hook.Tie as tie
+use Rattle.nodes.specs.Mended.{mended}
+use Rattle.nodes.proofs.mending.mend.Statement.{statement}
+use Rattle.nodes.proofs.mending.mend.Tie as tie
 
 read-node-requires : tie.Need-read-node-requires
 read-node-requires c κs = search needs
@@ -27,11 +27,11 @@ same-length : tie.Need-same-length
 same-length c = search needs
 
 returns : tie.Need-returns
-unfolding hookMem
+unfolding mended
 returns c = cc
 
-pub hook-spec : {M : Type 1} → statement M
-hook-spec =
+pub mend-spec : {M : Type 1} → statement M
+mend-spec =
     tie.close
     (tie.spec
     read-node-requires
