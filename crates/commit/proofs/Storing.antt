@@ -17,7 +17,7 @@ use Rattle.rules.specs.EntryFits.{EntryFits}
 use Rattle.pool.specs.Image.{Arrangement, Arranged, stateOf}
 use Rattle.put.specs.Storing.{putIn}
 use Rattle.put.proofs.Arranging.{Storable, state-put, arranged-put}
-use Rattle.commit.specs.Applied.{pointFrom, pointsIn, storeIn}
+use Rattle.commit.specs.Applied.{pointFrom, pointsIn, storeIn, AllStorable}
 
 -- the lists of points are the points
 pub points-in : (ps : List Point) → pointsIn (map kindOf ps) (map keyOf ps) (map payloadOf ps) ≡ ps
@@ -42,13 +42,6 @@ pub storeAll-grows : (ws es : List Entry) → length es ≤ length (storeAll ws 
 unfolding storeAll
 storeAll-grows [] es = omega arith
 storeAll-grows (w ∷ ws) es = omega (arith, store-grows w es, storeAll-grows ws (store w es))
-
--- each write fits its bytes, stands at the arrangement's position, and there is room for all
-pub record AllStorable (A : Arrangement) (ws : List Entry) : Type 0 where
-  pub started : 1 ≤ A .p
-  pub sized : (e : Entry) → Mem e ws → EntryFits e
-  pub at-p : (e : Entry) → Mem e ws → e .position ≡ A .p
-  pub room : length (storeAll ws (stateOf A .kept)) ≤ A .N
 
 pub first-storable : {A : Arrangement} {w : Entry} {ws : List Entry} → AllStorable A (w ∷ ws) → Storable A w
 unfolding storeAll

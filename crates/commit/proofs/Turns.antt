@@ -1,9 +1,8 @@
 -- The turns of the loop that applies points: what is stored so far, and storing what is left, make the whole.
 -- Assumes nothing.
-use Prim.Native.Nat.{ℕ, zero, suc, _+_, _≤_, _<_}
+use Prim.Native.Nat.{ℕ, _+_, _≤_, _<_}
 use mathlib.Core.Path.{_≡_, refl, sym, ap, _∙_, subst}
-use mathlib.Core.Bool.{Bool, true, false}
-use mathlib.Core.List.{List, [], _∷_, List·Memᴰ as Mem, List·Memᴰ·head as here, List·Memᴰ·tail as there}
+use mathlib.Core.List.{List, [], _∷_}
 use native.Mathlib.Omega.{arith}
 use native.Mathlib.Numerals.{add-one}
 use lib.ListN.{length, getD, drop, drop-of-length-le}
@@ -12,17 +11,14 @@ use Rattle.record.specs.declared.point.Point.{Point}
 use Rattle.record.specs.declared.point.Point.the-variants.{Read, Put, Delete}
 use Rattle.rules.specs.State.{Entry}
 use Rattle.rules.specs.Footprint.{writesOf}
-use Rattle.rules.specs.Verdict.{store, storeAll}
 use Rattle.rules.proofs.Stored.{writes-at}
-use Rattle.pool.specs.Image.{Arrangement, Arranged, Image, stateOf}
+use Rattle.pool.specs.Image.{Arrangement, Image}
 use Rattle.put.specs.declared.value.Value.{Value}
-use Rattle.put.specs.declared.value.Value.the-variants.{Live, Tombstone}
 use Rattle.put.specs.Values.{entryOf}
 use Rattle.put.specs.Storing.{putIn}
 use Rattle.put.specs.Asks.{Roomy}
-use Rattle.put.proofs.Arranging.{Storable}
-use Rattle.commit.specs.Applied.{pointFrom, pointsIn, valueOf, storeIn, writesIn, Applicable, Applies}
-use Rattle.commit.proofs.Storing.{AllStorable, first-storable, rest-storable}
+use Rattle.commit.specs.Applied.{pointFrom, pointsIn, valueOf, storeIn, writesIn, AllStorable, Applicable, Applies}
+use Rattle.commit.proofs.Storing.{first-storable, rest-storable}
 
 -- what is left to store, from point i on
 abbrev pub restIn : ℕ → List ℕ → List ℕ → List ℕ → ℕ → List Entry
@@ -132,9 +128,9 @@ module _ (m₀ kinds ks xs m : List ℕ) (i : ℕ) (a : Applicable m₀ kinds ks
               };
         }
 
-pub ends : (m₀ kinds ks xs m : List ℕ) (i : ℕ) → Applicable m₀ kinds ks xs → Going m₀ kinds ks xs m i → length ks ≤ i → Applies m₀ kinds ks xs m
+pub loop-ends : (m₀ kinds ks xs m : List ℕ) (i : ℕ) → Applicable m₀ kinds ks xs → Going m₀ kinds ks xs m i → length ks ≤ i → Applies m₀ kinds ks xs m
 unfolding pointsIn storeIn
-ends m₀ kinds ks xs m i a g h A q =
+loop-ends m₀ kinds ks xs m i a g h A q =
     let d : drop i kinds ≡ [] = drop-of-length-le kinds {i = i} (omega (arith, a .as-many-keys)) in
     let r = g .halves A q in
     subst (λ (B : Arrangement). Image m B) (rw d at (r .rest)) (r .image)

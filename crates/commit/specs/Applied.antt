@@ -1,4 +1,4 @@
--- Applying points to an arrangement: "puts and deletes are stored at v; .. anything that is not a put or a delete is passed over".
+-- Applying points to an arrangement (R22, R28): puts and deletes are stored at v, anything else is passed over.
 -- Assumes nothing: these are definitions.
 use Prim.Native.Nat.{ℕ, _≤_}
 use mathlib.Core.Path.{_≡_}
@@ -39,6 +39,13 @@ valueOf (Delete k) = Tombstone
 unfoldable pub storeIn : Arrangement → List Entry → Arrangement
 storeIn A [] = A
 storeIn A (w ∷ ws) = storeIn (putIn A w) ws
+
+-- these entries can all be stored: each fits its bytes and stands at the arrangement's position, and there is room for all
+pub record AllStorable (A : Arrangement) (ws : List Entry) : Type 0 where
+  pub started : 1 ≤ A .p
+  pub sized : (e : Entry) → Mem e ws → EntryFits e
+  pub at-p : (e : Entry) → Mem e ws → e .position ≡ A .p
+  pub room : length (storeAll ws (stateOf A .kept)) ≤ A .N
 
 -- the writes of three lists of points, at position v
 abbrev pub writesIn : ℕ → List ℕ → List ℕ → List ℕ → List Entry

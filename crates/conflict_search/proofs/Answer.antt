@@ -17,7 +17,7 @@ use Rattle.rules.specs.Footprint.{reach}
 use Rattle.rules.specs.Verdict.{hits, conflicts}
 use Rattle.rules.specs.Tree.{Tree, walk, walkOf}
 use Rattle.rules.specs.Tree as rules
-use Rattle.rules.proofs.Marks.{ends, ends-length, ends-marked, apart-ordered}
+use Rattle.rules.proofs.Marks.{marksOf, marks-length, marks-marked, apart-ordered}
 use Rattle.rules.proofs.Bound.{looks-bound}
 use Rattle.rules.proofs.Trees.{treeOf-canonical}
 use Rattle.rules.proofs.Search.{walk-conflicts}
@@ -88,5 +88,5 @@ named-conflicts {m} {A} r x =
 
 -- "never exceed 65 + 64·(points + 2·scans)"
 pub looks-few : {m : List ℕ} {A : Arrangement} {r : Rec} → Image m A → Valid r → conflictOf A r .looks ≤ 65 + 64 * (length (r .points) + 2 * length (r .scans))
-looks-few {m} {A} {r} x v = rw (looks-walk r x, ← (ends-length r))
-    (looks-bound (r .snapshot) (reach r) (ends r) (ends-marked r (apart-ordered 0 (r .scans) (v .apart))) (treeOf-canonical 32 0 (x .arranged .lawful .rising)))
+looks-few {m} {A} {r} x v = rw (looks-walk r x, ← (marks-length r))
+    (looks-bound (r .snapshot) (reach r) (marksOf r) (marks-marked r (apart-ordered 0 (r .scans) (v .apart))) (treeOf-canonical 32 0 (x .arranged .lawful .rising)))

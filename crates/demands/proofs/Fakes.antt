@@ -15,7 +15,7 @@ use Rattle.record.specs.Parse.{parse}
 use Rattle.record.proofs.RoundTrip.{parse-bytesOf, valid-bytes}
 use Rattle.rules.specs.State.{State, fresh}
 use Rattle.rules.specs.Footprint.{reach, meets}
-use Rattle.rules.specs.Verdict.{hits, store, storeAll, young, apply, judge, verdict, next}
+use Rattle.rules.specs.Verdict.{hits, refusalOr, store, storeAll, young, drops, apply, count, judge, verdict, next}
 use Rattle.rules.specs.Lookup.{lookup}
 use Rattle.rules.specs.Refresh.{refresh}
 use Rattle.create.specs.Fresh.{limitsOk}
@@ -103,7 +103,7 @@ module _ (L : Library) where
 
   -- a record that says nothing commits in a new pool
   pub not-always-refuses : AlwaysRefuses L → ⊥
-  unfolding verdict judge reach meets hits store storeAll young apply
+  unfolding verdict judge reach meets hits refusalOr count store storeAll young drops apply
   not-always-refuses f = f new (bytesOf (nothing 0)) (ap (λ (x : Melded). x .answer) (melded new (fresh 1 1) new-means (nothing 0) valid-nothing .0))
 
   -- no bytes at all are malformed
@@ -129,7 +129,7 @@ module _ (L : Library) where
 
   -- a new pool has no payload of 10; after put 10 = 100 it is 100
   pub not-stores-nothing : StoresNothing L → ⊥
-  unfolding first lookup verdict judge reach meets hits store storeAll young apply next
+  unfolding first lookup verdict judge reach meets hits refusalOr count store storeAll young drops apply next
   not-stores-nothing f =
       let e : L .lookup first 10 ≡ L .lookup new 10 = f new (bytesOf (put 0 100)) 10 in
       let a : payload (L .lookup first 10) ≡ 100 = ap payload (sees first (next (fresh 1 1) (some (put 0 100))) 10 first-means) in
@@ -138,7 +138,7 @@ module _ (L : Library) where
 
   -- after put 10 = 5 at position 2 it is 5
   pub not-only-first : OnlyFirst L → ⊥
-  unfolding first lookup verdict judge reach meets hits store storeAll young apply next
+  unfolding first lookup verdict judge reach meets hits refusalOr count store storeAll young drops apply next
   not-only-first f =
       let S : State = next (fresh 1 1) (some (put 0 100)) in
       let e : L .lookup (L .meld first (bytesOf (put 1 5)) .1) 10 ≡ L .lookup first 10 = f first (bytesOf (put 1 5)) S 10 first-means (omega arith) in
@@ -153,14 +153,14 @@ module _ (L : Library) where
 
   -- a refresh at position 0 of a record with snapshot 0 answers 0
   pub not-always-ahead : AlwaysAhead L → ⊥
-  unfolding refresh leftBy reach meets hits bigEndian
+  unfolding refresh leftBy reach meets hits refusalOr bigEndian
   not-always-ahead f =
       let x = refreshed new (fresh 1 1) new-means (nothing 0) valid-nothing (replicate 9 0) nine in
       omega (arith, ap (λ (a : Answer). a .number) (sym (f new (bytesOf (nothing 0)) (replicate 9 0)) ∙ ap (λ (o : RefreshOutcome). o .answer) x))
 
   -- at position 1 the byte of weight 1 of its snapshot is 1, not 0
   pub not-copies : Copies L → ⊥
-  unfolding first lookup verdict judge reach meets hits store storeAll young apply next refresh leftBy bigEndian
+  unfolding first lookup verdict judge reach meets hits refusalOr count store storeAll young drops apply next refresh leftBy bigEndian
   not-copies f =
       let S : State = next (fresh 1 1) (some (put 0 100)) in
       let x = refreshed first S first-means (nothing 0) valid-nothing (replicate 9 0) nine in

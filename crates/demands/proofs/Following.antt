@@ -9,8 +9,7 @@ use Rattle.record.specs.Parse.{parse}
 use Rattle.record.proofs.RoundTrip.{bytesOf-parse}
 use Rattle.rules.specs.State.{State}
 use Rattle.rules.specs.Verdict.{next}
-use Rattle.rules.specs.Log.{after}
-use Rattle.rules.proofs.Written.{ValidIf}
+use Rattle.rules.specs.Log.{ValidIf, after}
 use Rattle.pool.specs.Image.{Arrangement, Image, stateOf}
 use Rattle.meld.specs.declared.melding.Melded.{Melded}
 use Rattle.meld.specs.After.{afterIn}

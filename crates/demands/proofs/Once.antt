@@ -22,8 +22,8 @@ use Rattle.log.specs.PartSized.{PartSized}
 use Rattle.log.proofs.Same.{cut-here}
 use Rattle.rules.specs.State.{State, lastPosition}
 use Rattle.rules.specs.Verdict.{Verdict, verdictAnswer}
-use Rattle.rules.specs.Refresh.{at, Refreshed, done, refused, refresh}
-use Rattle.rules.proofs.Refreshing.{Refreshes, refresh-exactly, refreshed-valid}
+use Rattle.rules.specs.Refresh.{withSnapshot, Refreshed, done, refused, refresh, Refreshes}
+use Rattle.rules.proofs.Refreshing.{refresh-exactly, refreshed-valid}
 use Rattle.refresh.specs.Refreshed.{RefreshOutcome, refreshOutcome, leftBy, refreshedOf}
 use Rattle.refresh.proofs.Output.{FrontIs, Refreshable, after-zero, zero-exactly}
 use Rattle.in_force.specs.InForce.{sourceOf, ifCut, bytesFrom}
@@ -64,7 +64,7 @@ module _ (S : State) (m original : List ℕ) (b : Bytes original) (r : Rec) (is 
   promised = subst (λ (T : State). refreshOutcome a (h .after) ≡ refreshedOf T (parse original) (h .before)) (means .state) (h .refreshed .fit (means .arrangement) (means .image))
 
   -- a refreshed record is the original with snapshot p
-  passes : (r′ : Rec) → refresh S (some r) ≡ done r′ → Refreshes S r (at (S .p) r)
+  passes : (r′ : Rec) → refresh S (some r) ≡ done r′ → Refreshes S r (withSnapshot (S .p) r)
   passes r′ e = let w = refresh-exactly S r r′ .0 e in record {
     not-ahead = w .not-ahead;
     not-too-old = w .not-too-old;
@@ -78,19 +78,19 @@ module _ (S : State) (m original : List ℕ) (b : Bytes original) (r : Rec) (is 
   once-done : (r′ : Rec) → refresh S (some r) ≡ done r′ → Once S r a result
   once-done r′ e =
       let w = passes r′ e in
-      let d : refresh S (some r) ≡ done (at (S .p) r) = refresh-exactly S r (at (S .p) r) .1 w in
+      let d : refresh S (some r) ≡ done (withSnapshot (S .p) r) = refresh-exactly S r (withSnapshot (S .p) r) .1 w in
       let z : a .number ≡ 0 = zero-exactly S last original (h .before) b a (h .after) promised .1 (record { r = r; is = is; passes = w; room = h .room }) in
       let zero : a ≡ committed = ap (λ (n : ℕ). record { number = n }) z in
       let f = after-zero S last original (h .before) b a (h .after) promised z in
-      let v : Valid (at (S .p) r) = refreshed-valid S last (valid f) d in
-      let bytes : take (length original) (h .after) ≡ bytesOf (at (S .p) r) = f .bytes ∙ ap (λ (x : Rec). bytesOf (at (S .p) x)) (some-same (sym (f .was) ∙ is)) in
-      let whole : h .after ≡ bytesOf (at (S .p) r) ++ drop (length original) (h .after) =
+      let v : Valid (withSnapshot (S .p) r) = refreshed-valid S last (valid f) d in
+      let bytes : take (length original) (h .after) ≡ bytesOf (withSnapshot (S .p) r) = f .bytes ∙ ap (λ (x : Rec). bytesOf (withSnapshot (S .p) x)) (some-same (sym (f .was) ∙ is)) in
+      let whole : h .after ≡ bytesOf (withSnapshot (S .p) r) ++ drop (length original) (h .after) =
       sym (take-append-drop (length original) (h .after)) ∙ ap (λ (l : List ℕ). l ++ drop (length original) (h .after)) bytes in
-      went (at (S .p) r) d zero v
+      went (withSnapshot (S .p) r) d zero v
       (sym (h .part-is) ∙ h .in-force .bytes
       ∙ ap (λ (x : Answer). bytesFrom (sourceOf x (now (h .buffer))) (now (h .lent)) (now (h .buffer))) zero
       ∙ ap (λ (l : List ℕ). bytesFrom (sourceOf committed l) (now (h .lent)) l) (h .buffer-is)
-      ∙ front-in-force (at (S .p) r) v (now (h .lent)) (h .after) (drop (length original) (h .after)) whole)
+      ∙ front-in-force (withSnapshot (S .p) r) v (now (h .lent)) (h .after) (drop (length original) (h .after)) whole)
     where
       valid : FrontIs (S .p) original (h .before) (h .after) → Valid r
       valid f = subst Valid (some-same (sym (f .was) ∙ is)) (f .valid)
@@ -107,7 +107,7 @@ module _ (S : State) (m original : List ℕ) (b : Bytes original) (r : Rec) (is 
       never z =
           let w : Refreshable S original (h .before) = zero-exactly S last original (h .before) b a (h .after) promised .0 (ap (λ (x : Answer). x .number) z) in
           let same : w .r ≡ r = some-same (sym (w .is) ∙ is) in
-          done-not (at (S .p) (w .r)) (sym (refresh-exactly S (w .r) (at (S .p) (w .r)) .1 (w .passes)) ∙ ap (λ (x : Rec). refresh S (some x)) same ∙ e)
+          done-not (withSnapshot (S .p) (w .r)) (sym (refresh-exactly S (w .r) (withSnapshot (S .p) (w .r)) .1 (w .passes)) ∙ ap (λ (x : Rec). refresh S (some x)) same ∙ e)
 
   pub once : Once S r a result
   once = go (refresh S (some r)) refl

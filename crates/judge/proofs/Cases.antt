@@ -7,12 +7,11 @@ use mathlib.Core.List.{List}
 use native.Mathlib.Omega.{arith}
 use borrow.Author.Tests.{lt-ltb, le-ltb, eq-eqb, ne-eqb}
 use Rattle.record.specs.declared.point.Scan.{Scan}
-use Rattle.record.specs.Answer.{committed, conflict, tooOld, ahead}
 use Rattle.nodes.specs.declared.header.Header.{Header}
 use Rattle.nodes.specs.Nodes.{headerAt}
 use Rattle.words.specs.Choice.{if_then_else_}
 use Rattle.rules.specs.Lists.{any}
-use Rattle.rules.specs.Verdict.{hits}
+use Rattle.rules.specs.Verdict.{committed, conflict, tooOld, ahead, hits, refusalOr}
 use Rattle.rules.specs.Tree.{Tree, treeOf, walk}
 use Rattle.rules.proofs.Search.{walk-found}
 use Rattle.pool.specs.Plan.{noNode}
@@ -38,12 +37,12 @@ module _ (m : List ℕ) (s : ℕ) (f : List Scan) (h : Header) (eh : h ≡ heade
   zone-is A i = ap (λ (x : Header). x .zone) (eh ∙ i .header)
 
   pub is-ahead : h .position < s → (A : Arrangement) → Image m A → judged ahead 0 ≡ judgedOf (stateOf A) s f
-  unfolding judgedOf
+  unfolding judgedOf refusalOr
   is-ahead l A i = let x : A .p < s = omega (arith, position-is A i) in rw (lt-ltb (A .p) s x)
 
   module _ (not-ahead : s ≤ h .position) where
     pub is-too-old : h .zone < h .position - s → (A : Arrangement) → Image m A → judged tooOld 0 ≡ judgedOf (stateOf A) s f
-    unfolding judgedOf
+    unfolding judgedOf refusalOr
     is-too-old l A i =
         let x : s ≤ A .p = omega (arith, position-is A i) in
         let y : A .Z < A .p - s = omega (arith, position-is A i, zone-is A i) in
@@ -51,8 +50,8 @@ module _ (m : List ℕ) (s : ℕ) (f : List Scan) (h : Header) (eh : h ≡ heade
 
     module _ (young : h .position - s ≤ h .zone) (w : Searched) (ew : (A : Arrangement) → Image m A → w ≡ conflictIn s f (A .tree)) where
       -- the two tests before, and the looks
-      tests : (A : Arrangement) → Image m A → judgedOf (stateOf A) s f ≡ (if any (hits s f) (stateOf A .kept) then judged conflict (w .looks) else judged committed (w .looks))
-      unfolding judgedOf
+      tests : (A : Arrangement) → Image m A → judgedOf (stateOf A) s f ≡ judged (if any (hits s f) (stateOf A .kept) then conflict else committed) (w .looks)
+      unfolding judgedOf refusalOr
       tests A i =
           let x : s ≤ A .p = omega (arith, position-is A i) in
           let y : A .p - s ≤ A .Z = omega (arith, position-is A i, zone-is A i) in

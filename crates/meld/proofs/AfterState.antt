@@ -10,50 +10,52 @@ use lib.ListN.{length}
 use lib.Dec.{ltb, leb}
 use borrow.Author.Tests.{ltb-false, leb-false}
 use Rattle.record.specs.declared.point.Point.{Point}
-use Rattle.record.specs.Record.{Rec, Valid}
+use Rattle.record.specs.Record.{Rec}
 use Rattle.words.specs.Choice.{if_then_else_}
 use Rattle.rules.specs.Lists.{keep}
 use Rattle.rules.specs.State.{Entry, State, lastPosition}
 use Rattle.rules.specs.Footprint.{writesOf}
-use Rattle.rules.specs.Verdict.{Verdict, committed, conflict, tooOld, noRoom, malformed, ahead, positionsUsedUp, storeAll, young, whole, lean, count, apply, conflicts, judge, formed, verdict, pointsOf, step, left, next}
+use Rattle.rules.specs.Verdict.{Verdict, committed, conflict, tooOld, noRoom, malformed, ahead, positionsUsedUp, storeAll, young, whole, lean, drops, apply, count, conflicts, refusalOr, judge, verdict, pointsOf, step, left, next}
 use Rattle.rules.proofs.Stored.{writes-at}
 use Rattle.rules.specs.EntryFits.{EntryFits}
-use Rattle.rules.proofs.Written.{ValidIf, record-sized}
+use Rattle.rules.specs.Log.{ValidIf}
+use Rattle.rules.proofs.Written.{record-sized}
+use Rattle.rules.proofs.Counted.{count-stored, drops-whole}
 use Rattle.pool.specs.Image.{Arrangement, Arranged, stateOf}
 use Rattle.drop.specs.Drop.{dropIn}
 use Rattle.advance.specs.Moved.{movedOn}
 use Rattle.drop.proofs.Arranging.{drop-arranged, drop-young}
 use Rattle.advance.proofs.Moving.{onward-arranged}
-use Rattle.commit.specs.Applied.{storeIn}
+use Rattle.commit.specs.Applied.{storeIn, AllStorable}
 use Rattle.commit.specs.Commit.{oldAt}
-use Rattle.commit.proofs.Storing.{AllStorable, state-store}
+use Rattle.commit.proofs.Storing.{state-store}
 use Rattle.meld.specs.After.{committedIn, leftIn, afterIn}
 
 -- what a record that commits has passed
-pub record Passed (S : State) (m : Option Rec) : Type 0 where
+pub record PassedChecks (S : State) (m : Option Rec) : Type 0 where
   pub position-left : S .p < lastPosition
   pub r : Rec
   pub is : m ≡ some r
   pub room : count S (r .points) ≤ S .N
 
 -- of the verdict's tests the first and the last are read off
-pick : (a b c d e : Bool) → (if a then positionsUsedUp else (if b then ahead else (if c then tooOld else (if d then conflict else (if e then noRoom else committed))))) ≡ committed → (a ≡ false) × (e ≡ false)
-pick true b c d e h = let z : _≡_ {A = ℕ} 0 1 = cc in absurd (omega arith)
-pick false true c d e h = let z : _≡_ {A = ℕ} 0 1 = cc in absurd (omega arith)
-pick false false true d e h = let z : _≡_ {A = ℕ} 0 1 = cc in absurd (omega arith)
-pick false false false true e h = let z : _≡_ {A = ℕ} 0 1 = cc in absurd (omega arith)
-pick false false false false true h = let z : _≡_ {A = ℕ} 0 1 = cc in absurd (omega arith)
-pick false false false false false h = (refl, refl)
+first-and-last : (a b c d e : Bool) → (if a then positionsUsedUp else (if b then ahead else (if c then tooOld else (if d then conflict else (if e then noRoom else committed))))) ≡ committed → (a ≡ false) × (e ≡ false)
+first-and-last true b c d e h = let z : _≡_ {A = ℕ} 0 1 = cc in absurd (omega arith)
+first-and-last false true c d e h = let z : _≡_ {A = ℕ} 0 1 = cc in absurd (omega arith)
+first-and-last false false true d e h = let z : _≡_ {A = ℕ} 0 1 = cc in absurd (omega arith)
+first-and-last false false false true e h = let z : _≡_ {A = ℕ} 0 1 = cc in absurd (omega arith)
+first-and-last false false false false true h = let z : _≡_ {A = ℕ} 0 1 = cc in absurd (omega arith)
+first-and-last false false false false false h = (refl, refl)
 
 none-commits : (a : Bool) → (if a then positionsUsedUp else malformed) ≡ committed → ⊥
 none-commits true h = let z : _≡_ {A = ℕ} 0 1 = cc in omega arith
 none-commits false h = let z : _≡_ {A = ℕ} 0 1 = cc in omega arith
 
-pub passed : (S : State) (m : Option Rec) → verdict S m ≡ committed → Passed S m
-unfolding verdict judge
-passed S none h = absurd (none-commits (leb lastPosition (S .p)) h)
-passed S (some r) h =
-    let x = pick (leb lastPosition (S .p)) (ltb (S .p) (r .snapshot)) (ltb (S .Z) (S .p - r .snapshot)) (conflicts S r) (ltb (S .N) (count S (r .points))) h in
+pub passed-checks : (S : State) (m : Option Rec) → verdict S m ≡ committed → PassedChecks S m
+unfolding verdict judge refusalOr
+passed-checks S none h = absurd (none-commits (leb lastPosition (S .p)) h)
+passed-checks S (some r) h =
+    let x = first-and-last (leb lastPosition (S .p)) (ltb (S .p) (r .snapshot)) (ltb (S .Z) (S .p - r .snapshot)) (conflicts S r) (ltb (S .N) (count S (r .points))) h in
     record { position-left = leb-false lastPosition (S .p) (x .0); r = r; is = refl; room = ltb-false (S .N) (count S (r .points)) (x .1) }
 
 -- A COMMIT
@@ -74,19 +76,21 @@ module _ (A : Arrangement) (q : Arranged A) (ps : List Point) (more : A .p < las
         started = omega arith;
         sized = sized;
         at-p = λ e m. writes-at (A .p + 1) ps m;
-        room = subst (λ (es : List Entry). length (storeAll ws es) ≤ A .N) (sym kept-lean) h;
+        room = subst (λ (es : List Entry). length (storeAll ws es) ≤ A .N) (sym kept-lean) (omega (arith, h, count-stored (stateOf A) ps (q .lawful .rising) sized));
       }
 
   pub committed-state : count (stateOf A) ps ≤ A .N → stateOf (committedIn A ps) ≡ step (stateOf A) (apply (stateOf A) ps)
   unfolding committedIn apply
-  committed-state h = go (ltb (A .N) (length (whole (stateOf A) ps))) refl
+  committed-state h = go (drops (stateOf A) ps) refl
     where
-      go : (b : Bool) → ltb (A .N) (length (whole (stateOf A) ps)) ≡ b
+      go : (b : Bool) → drops (stateOf A) ps ≡ b
           → stateOf (storeIn (if b then dropIn (oldAt A) (movedOn A) else movedOn A) ws) ≡ step (stateOf A) (if b then lean (stateOf A) ps else whole (stateOf A) ps)
       go true e =
           state-store ws (drop-arranged (oldAt A) (movedOn A) (onward-arranged A more q)) (lean-storable h)
           ∙ ap (λ (es : List Entry). step (stateOf A) (storeAll ws es)) kept-lean
-      go false e = state-store ws (onward-arranged A more q) (onward-storable (ltb-false (A .N) (length (whole (stateOf A) ps)) e))
+      go false e =
+          let n : length (whole (stateOf A) ps) ≤ A .N = ltb-false (A .N) (length (whole (stateOf A) ps)) (sym (drops-whole (stateOf A) ps (q .lawful .rising) sized) ∙ e) in
+          state-store ws (onward-arranged A more q) (onward-storable n)
 
 -- ANY RECORD
 
@@ -96,7 +100,7 @@ after-state A q m valid = go (verdict (stateOf A) m) refl
   where
     go : (v : Verdict) → verdict (stateOf A) m ≡ v → stateOf (leftIn A (pointsOf m) v) ≡ left (stateOf A) (pointsOf m) v
     go committed e =
-        let x = passed (stateOf A) m e in
+        let x = passed-checks (stateOf A) m e in
         let c : count (stateOf A) (pointsOf m) ≤ A .N = rw (x .is) (x .room) in
         committed-state A q (pointsOf m) (x .position-left) (record-sized (A .p + 1) m valid) c
     go conflict e = refl

@@ -1,30 +1,25 @@
 -- One law for each return of `meld_lists`, and for what each of its calls asks.
 -- Assumes nothing.
-use Prim.Native.Nat.{ℕ, _+_, _-_, _≤_, _<_}
+use Prim.Native.Nat.{ℕ, _+_, _≤_, _<_}
 use mathlib.Core.Path.{_≡_, refl, sym, ap, _∙_, subst}
-use mathlib.Core.Logic.{_⊎_, inl, inr, ⊎-elim}
-use mathlib.Core.Bool.{Bool, true, false}
-use mathlib.Core.Option.{Option, none, some}
-use mathlib.Core.List.{List, [], _∷_, map, List·Memᴰ as Mem}
+use mathlib.Core.Logic.{_⊎_, ⊎-elim}
+use mathlib.Core.Option.{some}
+use mathlib.Core.List.{List, List·Memᴰ as Mem}
 use native.Mathlib.Omega.{arith}
 use lib.ListN.{length, length-map}
-use lib.Dec.{ltb}
 use Rattle.record.specs.declared.answer.Answer.{Answer}
 use Rattle.record.specs.declared.point.Point.{Point}
 use Rattle.record.specs.declared.point.Scan.{Scan}
 use Rattle.record.specs.Answer as Names
-use Rattle.record.specs.Record.{Rec, Valid, kindOf, keyOf, payloadOf}
-use Rattle.record.specs.Reader.{lowOf, highOf}
+use Rattle.record.specs.Record.{Rec, kindOf, keyOf, payloadOf}
 use Rattle.nodes.specs.declared.header.Header.{Header}
-use Rattle.nodes.specs.Nodes.{headerAt}
-use Rattle.words.specs.Choice.{if_then_else_}
 use Rattle.rules.specs.Lists.{keep}
-use Rattle.rules.specs.State.{Entry, State, lastPosition}
+use Rattle.rules.specs.State.{Entry, lastPosition}
 use Rattle.rules.specs.Footprint.{reach, writesOf}
-use Rattle.rules.specs.Verdict.{Verdict, committed, conflict, tooOld, noRoom, malformed, ahead, positionsUsedUp, verdictAnswer, storeAll, young, whole, count, verdict}
-use Rattle.rules.specs.Tree.{looksOf}
+use Rattle.rules.specs.Verdict.{Verdict, committed, conflict, tooOld, noRoom, ahead, verdictAnswer, storeAll, young, verdict}
 use Rattle.rules.specs.EntryFits.{EntryFits}
 use Rattle.rules.proofs.Written.{written-sized}
+use Rattle.rules.proofs.Counted.{row-three}
 use Rattle.pool.specs.Image.{Arrangement, Image, Fit, stateOf}
 use Rattle.conflict_search.specs.Sorted.{Sorted, footprint}
 use Rattle.conflict_search.proofs.Reach.{sorted-valid, footprint-reach}
@@ -36,15 +31,13 @@ use Rattle.judge.specs.declared.judged.Judged.{Judged}
 use Rattle.judge.specs.Judged.{judgedOf}
 use Rattle.room.specs.declared.room.Room.{Room}
 use Rattle.room.specs.declared.room.Room.the-variants.{Enough, AfterDrop, TooLittle}
-use Rattle.room.specs.Room.{Writable, RoomIs}
+use Rattle.room.specs.Room.{saidBy, roomIn, Writable, RoomIs}
 use Rattle.commit.specs.Applied.{pointsIn, writesIn, storeIn}
 use Rattle.commit.specs.Commit.{oldAt, commitIn, commitLean, Committable, allKept, notOld}
 use Rattle.commit.proofs.Storing.{points-in}
-use Rattle.meld.specs.declared.melding.Melded.{Melded}
 use Rattle.meld.specs.After.{committedIn, leftIn, afterIn}
-use Rattle.meld.specs.Melds.{meldedOf, MeldsAs}
 use Rattle.meld.specs.Lists.{Names as NamesOf, Meldable, MeldsLists}
-use Rattle.meld.proofs.Judging.{Stops, at-ahead, at-too-old, at-conflict, Decided, Open, decided, TooMany, FitsLean, FitsWhole, too-little, after-drop, enough}
+use Rattle.meld.proofs.Judging.{Stops, at-ahead, at-too-old, at-conflict, Decided, Open, decided, too-little, after-drop, enough}
 
 module _ (m : List ℕ) (s : ℕ) (kinds ks xs ls hs : List ℕ) (pre : Meldable m s kinds ks xs ls hs) where
   -- WHAT THE CALLS ASK
@@ -97,9 +90,9 @@ module _ (m : List ℕ) (s : ℕ) (kinds ks xs ls hs : List ℕ) (pre : Meldable
     stays-put A ps tooOld at-too-old = refl
     stays-put A ps conflict at-conflict = refl
 
-    pub stopped : (m′ : List ℕ) → (j .answer .number ≡ 0 → ⊥) → ((A : Arrangement) → Image m A → Image m′ (movedOn A)) → MeldsLists m s kinds ks xs ls hs m′ (record { answer = j .answer; looks = j .looks })
+    pub refusal-melds : (m′ : List ℕ) → (j .answer .number ≡ 0 → ⊥) → ((A : Arrangement) → Image m A → Image m′ (movedOn A)) → MeldsLists m s kinds ks xs ls hs m′ (record { answer = j .answer; looks = j .looks })
     unfolding afterIn
-    stopped m′ d moved A i r n = ⊎-elim
+    refusal-melds m′ d moved A i r n = ⊎-elim
         (λ (x : Decided (stateOf A) r j). record {
           verdict-is = rw (x .answer-is, x .looks-is, x .is);
           leaves = rw (x .is, stays-put A (r .points) (x .v) (x .stops)) (moved A i);
@@ -122,8 +115,8 @@ module _ (m : List ℕ) (s : ℕ) (kinds ks xs ls hs : List ℕ) (pre : Meldable
       answer-zero A i r n = open-way A i r n .answer-is
 
       module _ (a : Room) (ea : RoomIs m kinds ks a) where
-        room-is : (A : Arrangement) → Image m A → (r : Rec) → NamesOf s kinds ks xs ls hs r → (b : Room) → a ≡ b → b ≡ Rattle.room.specs.Room.roomOf (stateOf A) (r .points)
-        room-is A i r n b e = sym e ∙ ea A i r (n .valid) (n .kinds-are) (n .keys-are)
+        room-is : (A : Arrangement) → Image m A → (r : Rec) → NamesOf s kinds ks xs ls hs r → (b : Room) → a ≡ b → saidBy b ≡ roomIn (stateOf A) (r .points)
+        room-is A i r n b e = ap saidBy (sym e) ∙ ea A i r (n .valid) (n .kinds-are) (n .keys-are)
 
         pub no-room : (m′ : List ℕ) → a ≡ TooLittle → ((A : Arrangement) → Image m A → Image m′ (movedOn A)) → MeldsLists m s kinds ks xs ls hs m′ (record { answer = Names.noRoom; looks = j .looks })
         unfolding afterIn
@@ -159,9 +152,9 @@ module _ (m : List ℕ) (s : ℕ) (kinds ks xs ls hs : List ℕ) (pre : Meldable
               room = subst (λ (ps : List Point). length (storeAll (writesOf (A .p + 1) ps) (stateOf A .kept)) ≤ A .N) (sym (points-are (pre .r) n)) (f .fits);
             }
 
-        pub wrote : (m′ : List ℕ) → a ≡ Enough → ((A : Arrangement) → Image m A → Image m′ (commitIn kinds ks xs A)) → MeldsLists m s kinds ks xs ls hs m′ (record { answer = j .answer; looks = j .looks })
+        pub whole-melds : (m′ : List ℕ) → a ≡ Enough → ((A : Arrangement) → Image m A → Image m′ (commitIn kinds ks xs A)) → MeldsLists m s kinds ks xs ls hs m′ (record { answer = j .answer; looks = j .looks })
         unfolding afterIn committedIn
-        wrote m′ e left A i r n =
+        whole-melds m′ e left A i r n =
             let x = open-way A i r n in
             let f = enough (stateOf A) r (i .arranged .lawful) (n .valid) (room-is A i r n Enough e) in
             let v : verdict (stateOf A) (some r) ≡ committed = x .is ∙ rw (f .tested) in
@@ -178,7 +171,7 @@ module _ (m : List ℕ) (s : ℕ) (kinds ks xs ls hs : List ℕ) (pre : Meldable
             let A = pre .arrangement in
             let n = pre .names in
             let f = after-drop (stateOf A) (pre .r) (room-is A (pre .image) (pre .r) n AfterDrop e) in
-            let c : length (storeAll (writesOf (A .p + 1) (pre .r .points)) (keep (stays (oldAt A)) (stateOf A .kept))) ≤ A .N = rw (lean-is A (pre .image)) (f .fits) in
+            let c : length (storeAll (writesOf (A .p + 1) (pre .r .points)) (keep (stays (oldAt A)) (stateOf A .kept))) ≤ A .N = rw (lean-is A (pre .image)) (omega (arith, f .fits, row-three (pre .image .arranged .lawful) (n .valid))) in
             record {
               arrangement = A;
               image = pre .image;
@@ -189,9 +182,9 @@ module _ (m : List ℕ) (s : ℕ) (kinds ks xs ls hs : List ℕ) (pre : Meldable
               room = subst (λ (ps : List Point). length (storeAll (writesOf (A .p + 1) ps) (keep (stays (oldAt A)) (stateOf A .kept))) ≤ A .N) (sym (points-are (pre .r) n)) c;
             }
 
-        pub wrote-lean : (m′ : List ℕ) → a ≡ AfterDrop → ((A : Arrangement) → Image m A → Image m′ (commitLean kinds ks xs A)) → MeldsLists m s kinds ks xs ls hs m′ (record { answer = j .answer; looks = j .looks })
+        pub lean-melds : (m′ : List ℕ) → a ≡ AfterDrop → ((A : Arrangement) → Image m A → Image m′ (commitLean kinds ks xs A)) → MeldsLists m s kinds ks xs ls hs m′ (record { answer = j .answer; looks = j .looks })
         unfolding afterIn committedIn
-        wrote-lean m′ e left A i r n =
+        lean-melds m′ e left A i r n =
             let x = open-way A i r n in
             let f = after-drop (stateOf A) r (room-is A i r n AfterDrop e) in
             let v : verdict (stateOf A) (some r) ≡ committed = x .is ∙ rw (f .tested) in

@@ -1,27 +1,25 @@
--- What a record leaves in an arrangement: the table's column "left behind", with the nodes.
+-- What a record leaves in an arrangement: R23's last column, with the nodes.
 -- Assumes nothing: these are definitions.
-use Prim.Native.Nat.{ℕ, _+_, _-_}
+use Prim.Native.Nat.{_+_}
 use mathlib.Core.Option.{Option}
 use mathlib.Core.List.{List}
-use lib.ListN.{length}
-use lib.Dec.{ltb}
 use Rattle.record.specs.declared.point.Point.{Point}
 use Rattle.record.specs.Record.{Rec}
 use Rattle.words.specs.Choice.{if_then_else_}
 use Rattle.rules.specs.Footprint.{writesOf}
-use Rattle.rules.specs.Verdict.{Verdict, committed, conflict, tooOld, noRoom, malformed, ahead, positionsUsedUp, whole, verdict, pointsOf}
+use Rattle.rules.specs.Verdict.{Verdict, committed, conflict, tooOld, noRoom, malformed, ahead, positionsUsedUp, drops, verdict, pointsOf}
 use Rattle.pool.specs.Image.{Arrangement, stateOf}
 use Rattle.drop.specs.Drop.{dropIn}
 use Rattle.advance.specs.Moved.{movedOn}
 use Rattle.commit.specs.Applied.{storeIn}
 use Rattle.commit.specs.Commit.{oldAt}
 
--- the position moved on, the old tombstones dropped if kept and written keys are together more than N, and the writes stored
+-- the position moved on (R29), the old tombstones dropped where R27 drops them, and the writes stored (R28)
 unfoldable pub committedIn : Arrangement → List Point → Arrangement
 committedIn A ps =
-    storeIn (if ltb (A .N) (length (whole (stateOf A) ps)) then dropIn (oldAt A) (movedOn A) else movedOn A) (writesOf (A .p + 1) ps)
+    storeIn (if drops (stateOf A) ps then dropIn (oldAt A) (movedOn A) else movedOn A) (writesOf (A .p + 1) ps)
 
--- "left behind", for each answer
+-- R23's last column, for each answer
 abbrev pub leftIn : Arrangement → List Point → Verdict → Arrangement
 leftIn A ps committed = committedIn A ps
 leftIn A ps conflict = movedOn A

@@ -17,7 +17,7 @@ use Rattle.record.specs.Reader.{front}
 use Rattle.rules.specs.State.{State, Lawful}
 use Rattle.rules.specs.Footprint.{reach}
 use Rattle.rules.specs.Verdict.{conflicts, hits}
-use Rattle.rules.specs.Refresh.{done, at, refresh}
+use Rattle.rules.specs.Refresh.{done, withSnapshot, refresh}
 use Rattle.rules.proofs.Tests.{of-any}
 use Rattle.rules.proofs.Reach.{of-hits}
 use Rattle.rules.proofs.Refreshing.{refresh-exactly}
@@ -25,16 +25,16 @@ use Rattle.refresh.specs.Refreshed.{refreshOutcome, leftBy, refreshedOf}
 use Rattle.refresh.proofs.Output.{FrontIs}
 
 -- with snapshot p nothing is in conflict
-no-conflict-at-p : (S : State) → Lawful S → (r : Rec) → T (not (conflicts S (at (S .p) r)))
+no-conflict-at-p : (S : State) → Lawful S → (r : Rec) → T (not (conflicts S (withSnapshot (S .p) r)))
 no-conflict-at-p S l r =
-    not-T (conflicts S (at (S .p) r)) (λ t.
-    let x = of-any (hits (S .p) (reach (at (S .p) r))) (S .kept) t in
-    omega (arith, l .positions (x .0) (x .1) .1, of-hits (S .p) (reach (at (S .p) r)) (x .0) (x .2) .0))
+    not-T (conflicts S (withSnapshot (S .p) r)) (λ t.
+    let x = of-any (hits (S .p) (reach (withSnapshot (S .p) r))) (S .kept) t in
+    omega (arith, l .positions (x .0) (x .1) .1, of-hits (S .p) (reach (withSnapshot (S .p) r)) (x .0) (x .2) .0))
 
 -- over records
-pub refresh-again : (S : State) → Lawful S → (r : Rec) → refresh S (some (at (S .p) r)) ≡ done (at (S .p) r)
+pub refresh-again : (S : State) → Lawful S → (r : Rec) → refresh S (some (withSnapshot (S .p) r)) ≡ done (withSnapshot (S .p) r)
 refresh-again S l r =
-    refresh-exactly S (at (S .p) r) (at (S .p) r) .1 (record {
+    refresh-exactly S (withSnapshot (S .p) r) (withSnapshot (S .p) r) .1 (record {
       not-ahead = omega arith;
       not-too-old = omega arith;
       no-conflict = no-conflict-at-p S l r;
@@ -48,8 +48,8 @@ pub refreshed-again : (S : State) → Lawful S → (original before after : List
     → refreshedOf S (parse (take (length original) after)) after ≡ refreshOutcome committed after
 unfolding leftBy
 refreshed-again S l original before after f =
-    let b : List ℕ = bytesOf (at (S .p) (f .r)) in
-    let d : refresh S (parse (take (length original) after)) ≡ done (at (S .p) (f .r)) = ap (refresh S) (f .reads) ∙ refresh-again S l (f .r) in
+    let b : List ℕ = bytesOf (withSnapshot (S .p) (f .r)) in
+    let d : refresh S (parse (take (length original) after)) ≡ done (withSnapshot (S .p) (f .r)) = ap (refresh S) (f .reads) ∙ refresh-again S l (f .r) in
     let n : length b ≡ length original = ap length (sym (f .bytes)) ∙ length-take-le (length original) after (omega (arith, f .fits, f .size)) in
     let h : length b ≤ length after = omega (arith, f .fits, f .size) in
     let s : front b after ≡ after =

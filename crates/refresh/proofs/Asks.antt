@@ -1,35 +1,32 @@
 -- The record that was read into lists, and what `judge` says of it.
 -- Assumes nothing.
-use Prim.Native.Nat.{ℕ, _-_, _≤_}
+use Prim.Native.Nat.{ℕ, _≤_}
 use mathlib.Core.Path.{_≡_, refl, sym, ap, _∙_}
-use mathlib.Core.Bool.{Bool, true, false}
+use mathlib.Core.Bool.{true}
 use mathlib.Core.Option.{Option, none, some}
 use mathlib.Core.List.{List, map}
 use native.Mathlib.Omega.{arith}
 use lib.ListN.{length, take, drop, replicate, length-map, length-append, length-replicate}
 use lib.Seq.{take-at}
-use lib.Dec.{ltb}
 use borrow.Author.Tests.{le-leb}
 use Rattle.words.specs.Word.{Bytes}
 use Rattle.record.specs.declared.point.Scan.{Scan}
 use Rattle.record.specs.declared.reader.Reading.{Reading}
-use Rattle.record.specs.Answer.{committed, conflict, tooOld, malformed, ahead}
+use Rattle.record.specs.Answer.{committed, malformed}
 use Rattle.record.specs.Record.{Rec, Valid, keyOf}
 use Rattle.record.specs.Parse.{parse}
 use Rattle.record.specs.Reader.{Lists, ReadOutcome, readOutcome, lists, front, roomy, filled, readOf, lowOf, highOf}
 use Rattle.record.proofs.RoundTrip.{bytesOf-parse}
-use Rattle.words.specs.Choice.{if_then_else_}
 use Rattle.rules.specs.State.{State}
 use Rattle.rules.specs.Footprint.{reach}
-use Rattle.rules.specs.Tree.{treeOf, walk}
 use Rattle.rules.specs.Verdict as Verdict
-use Rattle.rules.specs.Verdict.{conflicts}
-use Rattle.rules.specs.Refresh.{done, refused, refreshedAnswer, at, refresh}
+use Rattle.rules.specs.Verdict.{Verdict, verdictAnswer, refusalOr}
+use Rattle.rules.specs.Refresh.{refreshedAnswer, withSnapshot, onZero, refresh}
 use Rattle.pool.specs.Image.{Arrangement, Image, stateOf}
 use Rattle.conflict_search.specs.Sorted.{Sorted, footprint}
 use Rattle.conflict_search.proofs.Reach.{sorted-valid, footprint-reach}
 use Rattle.judge.specs.declared.judged.Judged.{Judged}
-use Rattle.judge.specs.Judged.{judged, judgedOf}
+use Rattle.judge.specs.Judged.{judgedOf}
 
 -- WHAT WAS READ
 
@@ -42,7 +39,7 @@ front-fits : (vs l : List ℕ) (n : ℕ) → n ≡ length vs → n ≤ length (f
 front-fits vs l n e = omega (arith, length-append vs (drop (length vs) l))
 
 -- the lists have room for every record
-pub record Roomy (l : Lists) : Type 0 where
+pub record RoomForEvery (l : Lists) : Type 0 where
   pub kinds : 64 ≤ length (l .kinds)
   pub keys : 64 ≤ length (l .keys)
   pub payloads : 64 ≤ length (l .payloads)
@@ -50,7 +47,7 @@ pub record Roomy (l : Lists) : Type 0 where
   pub highs : 8 ≤ length (l .highs)
 
 -- as the five local arrays have
-pub arrays-roomy : Roomy (lists (replicate 64 0) (replicate 64 0) (replicate 64 0) (replicate 8 0) (replicate 8 0))
+pub arrays-roomy : RoomForEvery (lists (replicate 64 0) (replicate 64 0) (replicate 64 0) (replicate 8 0) (replicate 8 0))
 arrays-roomy =
     record {
       kinds = omega (arith, length-replicate {A = ℕ} 64 0);
@@ -73,7 +70,7 @@ pub record Taken (bs : List ℕ) (a : Reading) (l : Lists) : Type 0 where
   pub lows-inside : a .scans ≤ length (l .lows)
   pub highs-inside : a .scans ≤ length (l .highs)
 
-module _ (bs : List ℕ) (bytes : Bytes bs) (before after : Lists) (room : Roomy before) (a : Reading) (e : readOutcome a after ≡ readOf (parse bs) before) where
+module _ (bs : List ℕ) (bytes : Bytes bs) (before after : Lists) (room : RoomForEvery before) (a : Reading) (e : readOutcome a after ≡ readOf (parse bs) before) where
   -- a valid record finds room
   finds-room : (r : Rec) → Valid r → roomy r before ≡ true
   finds-room r v =
@@ -136,20 +133,20 @@ module _ (bs : List ℕ) (bytes : Bytes bs) (before after : Lists) (room : Roomy
 
 -- WHAT IS ANSWERED
 
--- the same tests in the same order
-same-tests : (b₁ b₂ b₃ : Bool) (n : ℕ) (r : Rec)
-    → (if b₁ then judged ahead 0 else if b₂ then judged tooOld 0 else if b₃ then judged conflict n else judged committed n) .answer
-    ≡ refreshedAnswer (if b₁ then refused Verdict.ahead else if b₂ then refused Verdict.tooOld else if b₃ then refused Verdict.conflict else done r)
-same-tests true b₂ b₃ n r = refl
-same-tests false true b₃ n r = refl
-same-tests false false true n r = refl
-same-tests false false false n r = refl
+-- a refreshed record has answer 0, a refusal its own
+same-answer : (v : Verdict) (r : Rec) → verdictAnswer v ≡ refreshedAnswer (onZero r v)
+same-answer Verdict.committed r = refl
+same-answer Verdict.conflict r = refl
+same-answer Verdict.tooOld r = refl
+same-answer Verdict.noRoom r = refl
+same-answer Verdict.malformed r = refl
+same-answer Verdict.ahead r = refl
+same-answer Verdict.positionsUsedUp r = refl
 
--- rows 5, 2 and 1 are those of the rules
+-- what `judge` answers is what refresh refuses with, or 0
 judged-answer : (S : State) (r : Rec) → judgedOf S (r .snapshot) (reach r) .answer ≡ refreshedAnswer (refresh S (some r))
 unfolding judgedOf refresh
-judged-answer S r =
-    same-tests (ltb (S .p) (r .snapshot)) (ltb (S .Z) (S .p - r .snapshot)) (conflicts S r) (walk (r .snapshot) (reach r) (treeOf 32 0 (S .kept)) .looks) (at (S .p) r)
+judged-answer S r = same-answer (refusalOr S (r .snapshot) (reach r) Verdict.committed) (withSnapshot (S .p) r)
 
 module _ (m bs : List ℕ) where
   -- 4 for bytes that are no record

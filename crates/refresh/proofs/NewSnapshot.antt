@@ -11,7 +11,7 @@ use Rattle.words.specs.Word.{bigEndian, putWord}
 use Rattle.words.specs.Laws.{length-bigEndian, put-sets, byte-put}
 use Rattle.record.specs.Record.{Rec, version, pointsBytes, scansBytes, bodyBytes, bytesOf}
 use Rattle.record.proofs.Sizes.{body-size, whole-size}
-use Rattle.rules.specs.Refresh.{at}
+use Rattle.rules.specs.Refresh.{withSnapshot}
 
 -- four bytes stored behind the first three take the place of the four that stood there
 stored-behind : (head x y rest : List ℕ) → length head ≡ 3 → length x ≡ 4 → length y ≡ 4 → sets (head ++ (x ++ rest)) 3 y ≡ head ++ (y ++ rest)
@@ -28,23 +28,23 @@ abbrev behind : Rec → List ℕ
 behind r = length (r .points) ∷ length (r .scans) ∷ (pointsBytes (r .points) ++ scansBytes (r .scans))
 
 -- a length, a version and a snapshot before it
-abbrev whole : ℕ → List ℕ → List ℕ → List ℕ
-whole n x rest = bigEndian 2 n ++ (version ∷ (x ++ rest))
+abbrev headed : ℕ → List ℕ → List ℕ → List ℕ
+headed n x rest = bigEndian 2 n ++ (version ∷ (x ++ rest))
 
 -- the same with what follows, the first three bytes by themselves
-apart : (n : ℕ) (x rest t : List ℕ) → whole n x rest ++ t ≡ (bigEndian 2 n ++ (version ∷ [])) ++ (x ++ (rest ++ t))
+apart : (n : ℕ) (x rest t : List ℕ) → headed n x rest ++ t ≡ (bigEndian 2 n ++ (version ∷ [])) ++ (x ++ (rest ++ t))
 apart n x rest t = simp append-assoc
 
 -- the snapshot does not change the length
-pub same-body : (p : ℕ) (r : Rec) → length (bodyBytes (at p r)) ≡ length (bodyBytes r)
-same-body p r = body-size (at p r) ∙ sym (body-size r)
+pub same-body : (p : ℕ) (r : Rec) → length (bodyBytes (withSnapshot p r)) ≡ length (bodyBytes r)
+same-body p r = body-size (withSnapshot p r) ∙ sym (body-size r)
 
 -- nor the size of the whole
-pub same-size : (p : ℕ) (r : Rec) → length (bytesOf (at p r)) ≡ length (bytesOf r)
-same-size p r = omega (arith, whole-size (at p r), whole-size r, same-body p r)
+pub same-size : (p : ℕ) (r : Rec) → length (bytesOf (withSnapshot p r)) ≡ length (bytesOf r)
+same-size p r = omega (arith, whole-size (withSnapshot p r), whole-size r, same-body p r)
 
 -- "the same record with snapshot p", whatever follows it
-pub snapshot-stored : (p : ℕ) (r : Rec) (t : List ℕ) → putWord 4 (bytesOf r ++ t) 3 p ≡ bytesOf (at p r) ++ t
+pub snapshot-stored : (p : ℕ) (r : Rec) (t : List ℕ) → putWord 4 (bytesOf r ++ t) 3 p ≡ bytesOf (withSnapshot p r) ++ t
 snapshot-stored p r t =
     let n : ℕ = length (bodyBytes r) in
     let head : List ℕ = bigEndian 2 n ++ (version ∷ []) in
@@ -52,13 +52,13 @@ snapshot-stored p r t =
     put-sets 4 (bytesOf r ++ t) 3 p ∙ ap (λ (l : List ℕ). sets l 3 (bigEndian 4 p)) (apart n (bigEndian 4 (r .snapshot)) (behind r) t)
     ∙ stored-behind head (bigEndian 4 (r .snapshot)) (bigEndian 4 p) (behind r ++ t) three (length-bigEndian 4 (r .snapshot)) (length-bigEndian 4 p)
     ∙ sym (apart n (bigEndian 4 p) (behind r) t)
-    ∙ ap (λ (k : ℕ). whole k (bigEndian 4 p) (behind r) ++ t) (sym (same-body p r))
+    ∙ ap (λ (k : ℕ). headed k (bigEndian 4 p) (behind r) ++ t) (sym (same-body p r))
 
 -- the record alone
-pub snapshot-put : (p : ℕ) (r : Rec) → bytesOf (at p r) ≡ putWord 4 (bytesOf r) 3 p
+pub snapshot-put : (p : ℕ) (r : Rec) → bytesOf (withSnapshot p r) ≡ putWord 4 (bytesOf r) 3 p
 snapshot-put p r =
-    sym (append-nil (bytesOf (at p r))) ∙ sym (snapshot-stored p r []) ∙ ap (λ (l : List ℕ). putWord 4 l 3 p) (append-nil (bytesOf r))
+    sym (append-nil (bytesOf (withSnapshot p r))) ∙ sym (snapshot-stored p r []) ∙ ap (λ (l : List ℕ). putWord 4 l 3 p) (append-nil (bytesOf r))
 
 -- "its other bytes as before"
-pub others-as-before : (p : ℕ) (r : Rec) (i : ℕ) → (i < 3) ⊎ (7 ≤ i) → getD (bytesOf (at p r)) i 0 ≡ getD (bytesOf r) i 0
+pub others-as-before : (p : ℕ) (r : Rec) (i : ℕ) → (i < 3) ⊎ (7 ≤ i) → getD (bytesOf (withSnapshot p r)) i 0 ≡ getD (bytesOf r) i 0
 others-as-before p r i w = ap (λ (l : List ℕ). getD l i 0) (snapshot-put p r) ∙ byte-put 4 (bytesOf r) 3 p i w

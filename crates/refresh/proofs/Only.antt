@@ -18,12 +18,12 @@ by-fitness m (yes p) f g = p
 by-fitness m (no n) f g = g (λ x. n (f x))
 
 -- equal answers are told by their numbers
-same-answer : (a b : Answer) → Dec (a ≡ b)
-same-answer a b = map-dec (λ (e : a .number ≡ b .number). ap (λ (n : ℕ). record { number = n }) e) (λ (e : a ≡ b). ap (λ (x : Answer). x .number) e) (ℕ-discrete (a .number) (b .number))
+answer-decided : (a b : Answer) → Dec (a ≡ b)
+answer-decided a b = map-dec (λ (e : a .number ≡ b .number). ap (λ (n : ℕ). record { number = n }) e) (λ (e : a ≡ b). ap (λ (x : Answer). x .number) e) (ℕ-discrete (a .number) (b .number))
 
 -- equal bytes one by one
-same-bytes : (x y : List ℕ) → Dec (x ≡ y)
-same-bytes x y = List-discrete ℕ-discrete x y
+bytes-decided : (x y : List ℕ) → Dec (x ≡ y)
+bytes-decided x y = List-discrete ℕ-discrete x y
 
 module _ (m original before : List ℕ) where
   -- one refreshOutcome if the pool is fit
@@ -37,13 +37,13 @@ module _ (m original before : List ℕ) where
   -- one answer, and one content of the whole output afterwards
   pub refresh-only : (a b : Answer) (x y : List ℕ) → RefreshIs m original before a x → RefreshIs m original before b y → (a ≡ b) × (x ≡ y)
   refresh-only a b x y r s = (
-    by-fitness m (same-answer a b) (λ f. ap (λ (o : RefreshOutcome). o .answer) (meets a b x y r s f)) (λ n. ap (λ (o : RefreshOutcome). o .answer) (misses a b x y r s n)),
-    by-fitness m (same-bytes x y) (λ f. ap (λ (o : RefreshOutcome). o .output) (meets a b x y r s f)) (λ n. ap (λ (o : RefreshOutcome). o .output) (misses a b x y r s n)),
+    by-fitness m (answer-decided a b) (λ f. ap (λ (o : RefreshOutcome). o .answer) (meets a b x y r s f)) (λ n. ap (λ (o : RefreshOutcome). o .answer) (misses a b x y r s n)),
+    by-fitness m (bytes-decided x y) (λ f. ap (λ (o : RefreshOutcome). o .output) (meets a b x y r s f)) (λ n. ap (λ (o : RefreshOutcome). o .output) (misses a b x y r s n)),
   )
 
   -- "on any other answer the output is untouched"
   pub untouched : (a : Answer) (after : List ℕ) → RefreshIs m original before a after → (a .number ≡ 0 → ⊥) → after ≡ before
   untouched a after r n =
-      by-fitness m (same-bytes after before)
+      by-fitness m (bytes-decided after before)
       (λ f. left-untouched before a after (refresh (stateOf (f .arrangement)) (parse original)) (r .fit (f .arrangement) (f .image)) n)
       (λ u. ap (λ (o : RefreshOutcome). o .output) (r .unfit u))

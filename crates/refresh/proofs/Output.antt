@@ -20,8 +20,8 @@ use Rattle.record.specs.Reader.{front}
 use Rattle.record.proofs.RoundTrip.{parse-bytesOf, bytesOf-parse}
 use Rattle.words.specs.Choice.{if_then_else_}
 use Rattle.rules.specs.State.{State, lastPosition}
-use Rattle.rules.specs.Refresh.{Refreshed, done, refused, refreshedAnswer, at, refresh}
-use Rattle.rules.proofs.Refreshing.{Refreshes, refresh-exactly, refreshed-valid}
+use Rattle.rules.specs.Refresh.{Refreshed, done, refused, refreshedAnswer, withSnapshot, refresh, Refreshes}
+use Rattle.rules.proofs.Refreshing.{refresh-exactly, refreshed-valid}
 use Rattle.refresh.specs.Refreshed.{RefreshOutcome, refreshOutcome, leftBy, refreshedOf}
 use Rattle.refresh.proofs.NewSnapshot.{same-size, others-as-before}
 use Rattle.refresh.proofs.Returns.{Goes, goes}
@@ -62,8 +62,8 @@ pub record FrontIs (p : ℕ) (original before after : List ℕ) : Type 0 where
   pub valid : Valid r
   pub fits : length original ≤ length before
   pub size : length after ≡ length before
-  pub bytes : take (length original) after ≡ bytesOf (at p r)
-  pub reads : parse (take (length original) after) ≡ some (at p r)
+  pub bytes : take (length original) after ≡ bytesOf (withSnapshot p r)
+  pub reads : parse (take (length original) after) ≡ some (withSnapshot p r)
   pub others : (i : ℕ) → i < length original → (i < 3) ⊎ (7 ≤ i) → getD after i 0 ≡ getD original i 0
   pub rest : drop (length original) after ≡ drop (length original) before
 
@@ -71,7 +71,7 @@ pub record FrontIs (p : ℕ) (original before after : List ℕ) : Type 0 where
 pub record Refreshable (S : State) (original before : List ℕ) : Type 0 where
   pub r : Rec
   pub is : parse original ≡ some r
-  pub passes : Refreshes S r (at (S .p) r)
+  pub passes : Refreshes S r (withSnapshot (S .p) r)
   pub room : length original ≤ length before
 
 module _ (S : State) (last : S .p ≤ lastPosition) (original before : List ℕ) (y : Bytes original) (a : Answer) (after : List ℕ)
@@ -86,25 +86,25 @@ module _ (S : State) (last : S .p ≤ lastPosition) (original before : List ℕ)
     lent = bytesOf-parse original (g .r) y (g .is)
 
     -- the new bytes are as many
-    size : length (bytesOf (at (S .p) (g .r))) ≡ length original
+    size : length (bytesOf (withSnapshot (S .p) (g .r))) ≡ length original
     size = same-size (S .p) (g .r) ∙ ap length (sym (lent .1))
 
     -- they stand at the front
-    there : (length (bytesOf (at (S .p) (g .r))) ≤ length before) × (after ≡ front (bytesOf (at (S .p) (g .r))) before)
-    there = left-front before a after (at (S .p) (g .r)) (e ∙ ap (λ (x : Refreshed). leftBy x before) (g .does)) z
+    there : (length (bytesOf (withSnapshot (S .p) (g .r))) ≤ length before) × (after ≡ front (bytesOf (withSnapshot (S .p) (g .r))) before)
+    there = left-front before a after (withSnapshot (S .p) (g .r)) (e ∙ ap (λ (x : Refreshed). leftBy x before) (g .does)) z
 
     -- as many bytes of the output are the new record
-    front-bytes : take (length original) after ≡ bytesOf (at (S .p) (g .r))
-    front-bytes = rw (there .1) (take-at (bytesOf (at (S .p) (g .r))) _ (length original) size)
+    front-bytes : take (length original) after ≡ bytesOf (withSnapshot (S .p) (g .r))
+    front-bytes = rw (there .1) (take-at (bytesOf (withSnapshot (S .p) (g .r))) _ (length original) size)
 
     -- which is valid
-    front-valid : Valid (at (S .p) (g .r))
+    front-valid : Valid (withSnapshot (S .p) (g .r))
     front-valid = refreshed-valid S last (lent .0) (ap (refresh S) (sym (g .is)) ∙ g .does)
 
     -- the bytes outside the snapshot are the original's
     front-others : (i : ℕ) → i < length original → (i < 3) ⊎ (7 ≤ i) → getD after i 0 ≡ getD original i 0
     front-others i h w =
-        ap (λ (l : List ℕ). getD l i 0) (there .1) ∙ List·getD-append (bytesOf (at (S .p) (g .r))) _ 0 i (omega (arith, size))
+        ap (λ (l : List ℕ). getD l i 0) (there .1) ∙ List·getD-append (bytesOf (withSnapshot (S .p) (g .r))) _ 0 i (omega (arith, size))
         ∙ others-as-before (S .p) (g .r) i w ∙ ap (λ (l : List ℕ). getD l i 0) (sym (lent .1))
 
     -- all of it
@@ -118,13 +118,13 @@ module _ (S : State) (last : S .p ≤ lastPosition) (original before : List ℕ)
         arith,
         there .0,
         ap length (there .1),
-        length-append (bytesOf (at (S .p) (g .r))) (drop (length (bytesOf (at (S .p) (g .r)))) before),
-        length-drop (length (bytesOf (at (S .p) (g .r)))) before,
+        length-append (bytesOf (withSnapshot (S .p) (g .r))) (drop (length (bytesOf (withSnapshot (S .p) (g .r)))) before),
+        length-drop (length (bytesOf (withSnapshot (S .p) (g .r)))) before,
       );
       bytes = front-bytes;
-      reads = ap parse front-bytes ∙ parse-bytesOf (at (S .p) (g .r)) front-valid;
+      reads = ap parse front-bytes ∙ parse-bytesOf (withSnapshot (S .p) (g .r)) front-valid;
       others = front-others;
-      rest = rw (there .1) (drop-at (bytesOf (at (S .p) (g .r))) _ (length original) size ∙ ap (λ (n : ℕ). drop n before) size);
+      rest = rw (there .1) (drop-at (bytesOf (withSnapshot (S .p) (g .r))) _ (length original) size ∙ ap (λ (n : ℕ). drop n before) size);
     }
 
   -- "On 0 the front of the output is the same record with snapshot p, its other bytes as before"
@@ -138,13 +138,13 @@ module _ (S : State) (last : S .p ≤ lastPosition) (original before : List ℕ)
     λ z. let g = went z in record {
       r = g .r;
       is = g .is;
-      passes = refresh-exactly S (g .r) (at (S .p) (g .r)) .0 (ap (refresh S) (sym (g .is)) ∙ g .does);
+      passes = refresh-exactly S (g .r) (withSnapshot (S .p) (g .r)) .0 (ap (refresh S) (sym (g .is)) ∙ g .does);
       room = front-is z g .fits;
     },
     λ w.
-        let d : refresh S (parse original) ≡ done (at (S .p) (w .r)) = ap (refresh S) (w .is) ∙ refresh-exactly S (w .r) (at (S .p) (w .r)) .1 (w .passes) in
-        let n : length (bytesOf (at (S .p) (w .r))) ≡ length original = same-size (S .p) (w .r) ∙ ap length (sym (bytesOf-parse original (w .r) y (w .is) .1)) in
-        let h : length (bytesOf (at (S .p) (w .r))) ≤ length before = omega (arith, w .room) in
-        let q : leftBy (done (at (S .p) (w .r))) before .answer .number ≡ 0 = (rw (le-ltb (length before) (length (bytesOf (at (S .p) (w .r)))) h)) in
+        let d : refresh S (parse original) ≡ done (withSnapshot (S .p) (w .r)) = ap (refresh S) (w .is) ∙ refresh-exactly S (w .r) (withSnapshot (S .p) (w .r)) .1 (w .passes) in
+        let n : length (bytesOf (withSnapshot (S .p) (w .r))) ≡ length original = same-size (S .p) (w .r) ∙ ap length (sym (bytesOf-parse original (w .r) y (w .is) .1)) in
+        let h : length (bytesOf (withSnapshot (S .p) (w .r))) ≤ length before = omega (arith, w .room) in
+        let q : leftBy (done (withSnapshot (S .p) (w .r))) before .answer .number ≡ 0 = (rw (le-ltb (length before) (length (bytesOf (withSnapshot (S .p) (w .r)))) h)) in
         ap (λ (o : RefreshOutcome). o .answer .number) (e ∙ ap (λ (x : Refreshed). leftBy x before) d) ∙ q,
   )

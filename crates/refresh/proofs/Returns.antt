@@ -1,13 +1,11 @@
 -- One law for each return of `refresh_fit`: the tests before it decide what is left by refresh's definition.
 -- Assumes nothing.
-use Prim.Native.Nat.{ℕ, _+_, _-_, _≤_, _<_}
+use Prim.Native.Nat.{ℕ, _+_, _≤_, _<_}
 use mathlib.Core.Path.{_≡_, refl, sym, ap, _∙_}
-use mathlib.Core.Bool.{Bool, true, false}
 use mathlib.Core.Option.{Option, none, some}
 use mathlib.Core.List.{List, _++_}
 use native.Mathlib.Omega.{arith}
 use lib.ListN.{length, drop, length-append}
-use lib.Dec.{ltb}
 use borrow.Author.Tests.{lt-ltb, le-ltb}
 use Rattle.words.specs.Word.{Bytes, putWord}
 use Rattle.record.specs.declared.answer.Answer.{Answer}
@@ -18,10 +16,11 @@ use Rattle.record.specs.Reader.{front}
 use Rattle.record.proofs.RoundTrip.{bytesOf-parse, valid-size}
 use Rattle.nodes.specs.declared.header.Header.{Header}
 use Rattle.nodes.specs.Nodes.{headerAt}
-use Rattle.words.specs.Choice.{if_then_else_}
 use Rattle.rules.specs.State.{State}
-use Rattle.rules.specs.Verdict.{conflict, tooOld, ahead, conflicts}
-use Rattle.rules.specs.Refresh.{Refreshed, done, refused, refreshedAnswer, at, refresh}
+use Rattle.rules.specs.Footprint.{reach}
+use Rattle.rules.specs.Verdict as Verdict
+use Rattle.rules.specs.Verdict.{Verdict, conflict, tooOld, noRoom, malformed, ahead, positionsUsedUp, refusalOr}
+use Rattle.rules.specs.Refresh.{Refreshed, done, refused, refreshedAnswer, onZero, withSnapshot, refresh}
 use Rattle.pool.specs.Image.{Arrangement, Image, Fit, stateOf}
 use Rattle.refresh.specs.Refreshed.{refreshOutcome, leftBy, refreshedOf}
 use Rattle.refresh.proofs.NewSnapshot.{same-size, snapshot-stored}
@@ -34,27 +33,28 @@ unfolding leftBy
 refused-is before a (done r) e n = absurd (n (ap (λ (b : Answer). b .number) e))
 refused-is before a (refused v) e n = ap (λ (b : Answer). refreshOutcome b before) e
 
--- the three refusals are not 0
-only-done : (b₁ b₂ b₃ : Bool) (r : Rec)
-    → refreshedAnswer (if b₁ then refused ahead else if b₂ then refused tooOld else if b₃ then refused conflict else done r) .number ≡ 0
-    → (if b₁ then refused ahead else if b₂ then refused tooOld else if b₃ then refused conflict else done r) ≡ done r
-only-done true b₂ b₃ r e = absurd (omega arith)
-only-done false true b₃ r e = absurd (omega arith)
-only-done false false true r e = absurd (omega arith)
-only-done false false false r e = refl
+-- no refusal is 0
+only-done : (v : Verdict) (r : Rec) → refreshedAnswer (onZero r v) .number ≡ 0 → onZero r v ≡ done r
+only-done Verdict.committed r e = refl
+only-done conflict r e = absurd (omega arith)
+only-done tooOld r e = absurd (omega arith)
+only-done noRoom r e = absurd (omega arith)
+only-done malformed r e = absurd (omega arith)
+only-done ahead r e = absurd (omega arith)
+only-done positionsUsedUp r e = absurd (omega arith)
 
 -- the bytes are a record, and it is refreshed
 pub record Goes (S : State) (m : Option Rec) : Type 0 where
   pub r : Rec
   pub is : m ≡ some r
-  pub does : refresh S m ≡ done (at (S .p) r)
+  pub does : refresh S m ≡ done (withSnapshot (S .p) r)
 
 -- answer 0 means that
 pub goes : (S : State) (m : Option Rec) → refreshedAnswer (refresh S m) .number ≡ 0 → Goes S m
 unfolding refresh
 goes S none e = absurd (omega arith)
 goes S (some r) e =
-    record { r = r; is = refl; does = only-done (ltb (S .p) (r .snapshot)) (ltb (S .Z) (S .p - r .snapshot)) (conflicts S r) (at (S .p) r) e }
+    record { r = r; is = refl; does = only-done (refusalOr S (r .snapshot) (reach r) Verdict.committed) (withSnapshot (S .p) r) e }
 
 -- WHAT IS LEFT
 
@@ -64,7 +64,7 @@ module _ (S : State) (bs before : List ℕ) (bytes : Bytes bs) (g : Goes S (pars
   lent = bytesOf-parse bs (g .r) bytes (g .is) .1
 
   -- the refreshed record is as long
-  size : length (bytesOf (at (S .p) (g .r))) ≡ length bs
+  size : length (bytesOf (withSnapshot (S .p) (g .r))) ≡ length bs
   size = same-size (S .p) (g .r) ∙ ap length (sym lent)
 
   -- nine bytes at the least
@@ -74,18 +74,18 @@ module _ (S : State) (bs before : List ℕ) (bytes : Bytes bs) (g : Goes S (pars
   -- less room than the record needs
   too-short : length before < length bs → refreshOutcome outputShort before ≡ refreshedOf S (parse bs) before
   unfolding leftBy
-  too-short h = rw (g .does, lt-ltb (length before) (length (bytesOf (at (S .p) (g .r)))) (rw size h))
+  too-short h = rw (g .does, lt-ltb (length before) (length (bytesOf (withSnapshot (S .p) (g .r)))) (rw size h))
 
   -- the original copied to the front, then p in the place of its snapshot
-  put-over : putWord 4 (front bs before) 3 (S .p) ≡ front (bytesOf (at (S .p) (g .r))) before
+  put-over : putWord 4 (front bs before) 3 (S .p) ≡ front (bytesOf (withSnapshot (S .p) (g .r))) before
   put-over =
       ap (λ (l : List ℕ). putWord 4 (l ++ drop (length bs) before) 3 (S .p)) lent ∙ snapshot-stored (S .p) (g .r) (drop (length bs) before)
-      ∙ ap (λ (n : ℕ). bytesOf (at (S .p) (g .r)) ++ drop n before) (sym size)
+      ∙ ap (λ (n : ℕ). bytesOf (withSnapshot (S .p) (g .r)) ++ drop n before) (sym size)
 
   -- room enough
   long-enough : length bs ≤ length before → refreshOutcome committed (putWord 4 (front bs before) 3 (S .p)) ≡ refreshedOf S (parse bs) before
   unfolding leftBy
-  long-enough h = rw (g .does, le-ltb (length before) (length (bytesOf (at (S .p) (g .r)))) (rw size h)) (ap (refreshOutcome committed) put-over)
+  long-enough h = rw (g .does, le-ltb (length before) (length (bytesOf (withSnapshot (S .p) (g .r)))) (rw size h)) (ap (refreshOutcome committed) put-over)
 
 -- THE RETURNS
 

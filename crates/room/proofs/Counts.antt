@@ -1,34 +1,34 @@
 -- Row 3 counted key by key: each written key is absent, or kept and old, or kept and not old.
 -- Assumes nothing.
-use Prim.Native.Nat.{ℕ, zero, suc, _+_, _-_, _^_, _≤_, _<_}
-use mathlib.Core.Path.{_≡_, refl, sym, ap, _∙_, subst}
-use mathlib.Core.Logic.{_⊎_, inl, inr, ⊎-elim}
-use mathlib.Core.Bool.{Bool, true, false, not, _&&_, _||_}
-use mathlib.Core.List.{List, [], _∷_, _++_, map, List·Memᴰ as Mem, List·Memᴰ·head as here, List·Memᴰ·tail as there}
+use Prim.Native.Nat.{ℕ, suc, _+_, _-_, _^_, _≤_, _<_}
+use mathlib.Core.Path.{_≡_, refl, sym, ap, _∙_}
+use mathlib.Core.Logic.{_⊎_, ⊎-elim}
+use mathlib.Core.Bool.{Bool, true, false, not, _&&_}
+use mathlib.Core.List.{List, [], _∷_, List·Memᴰ as Mem, List·Memᴰ·head as here, List·Memᴰ·tail as there}
 use mathlib.Core.Option.{Option, none, some}
 use native.Mathlib.Omega.{arith}
 use lib.ListN.{length}
-use lib.Dec.{T, ltb, leb, eqb}
-use borrow.Author.Tests.{eq-eqb, ne-eqb, lt-ltb, le-ltb, le-leb, lt-leb, ltb-true, ltb-false, leb-true, leb-false, eqb-true}
+use lib.Dec.{ltb, leb, eqb}
+use borrow.Author.Tests.{eq-eqb, ne-eqb, lt-leb, ltb-true, ltb-false, eqb-true}
 use Rattle.record.specs.declared.point.Point.{Point}
 use Rattle.record.specs.declared.point.Point.the-variants.{Read, Put, Delete}
-use Rattle.record.specs.Record.{keyOf}
 use Rattle.record.specs.Record.{PointsRise}
 use Rattle.words.specs.Choice.{if_then_else_}
 use Rattle.rules.specs.Lists.{keep}
 use Rattle.rules.specs.State.{Entry, State, Lawful, Rising, end, link, isLive}
 use Rattle.rules.specs.Footprint.{writesOf}
 use Rattle.rules.specs.Lookup.{find}
-use Rattle.rules.specs.Verdict.{store, storeAll, young, whole, lean, count}
+use Rattle.rules.specs.Verdict.{store, storeAll, young, whole, count}
 use Rattle.rules.proofs.Tests.{le-or-lt}
-use Rattle.rules.proofs.Sorted.{store-rising, keep-rising, rising-lower}
+use Rattle.rules.proofs.Sorted.{store-rising, keep-rising}
 use Rattle.rules.proofs.Finding.{find-none, find-store}
+use Rattle.rules.proofs.Written.{written-sized}
+use Rattle.rules.proofs.Counted.{count-stored}
 use Rattle.drop.specs.Old.{old, stays}
 use Rattle.drop.proofs.Olds.{young-stays, young-early}
 use Rattle.find.specs.declared.Found.{Found}
-use Rattle.find.specs.declared.Found.the-variants.{Absent, Live, Tombstone}
 use Rattle.find.specs.Found.{foundAt, foundOf, foundIn}
-use Rattle.room.specs.Tally.{absent, revived}
+use Rattle.room.specs.Tally.{oneIfAbsent, oneIfRevived}
 
 -- such ones among the keys that points write
 unfoldable pub tally : (Found → ℕ) → List Point → List Entry → ℕ
@@ -46,17 +46,17 @@ found-store k e es d =
     ap foundOf h
 
 -- a store adds an entry exactly where the key was absent
-length-store : (e : Entry) {lo hi : ℕ} {es : List Entry} → Rising hi lo es → length (store e es) ≡ length es + absent (foundIn (e .key) es)
+length-store : (e : Entry) {lo hi : ℕ} {es : List Entry} → Rising hi lo es → length (store e es) ≡ length es + oneIfAbsent (foundIn (e .key) es)
 unfolding store foundIn
 length-store e (end l) = refl
 length-store e {lo} {hi} (link {e = x} {es = es} l r) = go (ltb (e .key) (x .key)) (ltb (x .key) (e .key)) refl refl (length-store e r)
   where
-    kept : (w : ℕ) (o : Option ℕ) → suc (length es) ≡ suc (length es) + absent (foundAt w o)
+    kept : (w : ℕ) (o : Option ℕ) → suc (length es) ≡ suc (length es) + oneIfAbsent (foundAt w o)
     kept w none = omega arith
     kept w (some y) = omega arith
 
-    go : (a b : Bool) → ltb (e .key) (x .key) ≡ a → ltb (x .key) (e .key) ≡ b → length (store e es) ≡ length es + absent (foundOf (find (e .key) es))
-        → length (if a then e ∷ x ∷ es else (if b then x ∷ store e es else e ∷ es)) ≡ suc (length es) + absent (foundOf (find (e .key) (x ∷ es)))
+    go : (a b : Bool) → ltb (e .key) (x .key) ≡ a → ltb (x .key) (e .key) ≡ b → length (store e es) ≡ length es + oneIfAbsent (foundOf (find (e .key) es))
+        → length (if a then e ∷ x ∷ es else (if b then x ∷ store e es else e ∷ es)) ≡ suc (length es) + oneIfAbsent (foundOf (find (e .key) (x ∷ es)))
     go true b p q h =
         let d : x .key ≡ e .key → ⊥ = λ z. omega (arith, ltb-true (e .key) (x .key) p) in
         let n : find (e .key) es ≡ none = find-none (e .key) {lo = x .key + 1} (omega (arith, ltb-true (e .key) (x .key) p)) r in
@@ -79,16 +79,16 @@ tally-store f (Delete k ∷ ps) low e es r h = rw (found-store k e es (λ q. ome
 -- ALL OF THEM
 
 -- the keys kept after the writes: those before, and the written ones that were absent
-pub length-storeAll : (v low : ℕ) (ps : List Point) {es : List Entry} → PointsRise low ps → Rising (2 ^ 32) 0 es → length (storeAll (writesOf v ps) es) ≡ length es + tally absent ps es
+pub length-storeAll : (v low : ℕ) (ps : List Point) {es : List Entry} → PointsRise low ps → Rising (2 ^ 32) 0 es → length (storeAll (writesOf v ps) es) ≡ length es + tally oneIfAbsent ps es
 unfolding storeAll tally
 length-storeAll v low [] {es} r s = omega arith
 length-storeAll v low (Read k ∷ ps) {es} r s = length-storeAll v (k + 1) ps (r .3) s
 length-storeAll v low (Put k x ∷ ps) {es} r s =
     let e : Entry = record { key = k; position = v; payload = some x } in
-    length-storeAll v (k + 1) ps (r .3) (store-rising e s (omega arith) (r .1)) ∙ omega (arith, length-store e s, tally-store absent ps (k + 1) e es (r .3) (omega arith))
+    length-storeAll v (k + 1) ps (r .3) (store-rising e s (omega arith) (r .1)) ∙ omega (arith, length-store e s, tally-store oneIfAbsent ps (k + 1) e es (r .3) (omega arith))
 length-storeAll v low (Delete k ∷ ps) {es} r s =
     let e : Entry = record { key = k; position = v; payload = none } in
-    length-storeAll v (k + 1) ps (r .3) (store-rising e s (omega arith) (r .1)) ∙ omega (arith, length-store e s, tally-store absent ps (k + 1) e es (r .3) (omega arith))
+    length-storeAll v (k + 1) ps (r .3) (store-rising e s (omega arith) (r .1)) ∙ omega (arith, length-store e s, tally-store oneIfAbsent ps (k + 1) e es (r .3) (omega arith))
 
 -- WITHOUT THE OLD TOMBSTONES
 
@@ -103,22 +103,22 @@ length-stays limit (e ∷ es) = go (old limit e) (length-stays limit es)
     go false h = omega arith
 
 -- a key is absent among those that stay exactly if it was absent or old
-found-stays : (limit k : ℕ) {lo hi : ℕ} {es : List Entry} → Rising hi lo es → absent (foundIn k (keep (stays limit) es)) ≡ absent (foundIn k es) + revived limit (foundIn k es)
+found-stays : (limit k : ℕ) {lo hi : ℕ} {es : List Entry} → Rising hi lo es → oneIfAbsent (foundIn k (keep (stays limit) es)) ≡ oneIfAbsent (foundIn k es) + oneIfRevived limit (foundIn k es)
 unfolding foundIn old
 found-stays limit k (end l) = refl
 found-stays limit k (link {e = x} {es = es} l r) = go (eqb (x .key) k) (old limit x) refl refl (found-stays limit k r)
   where
-    same : (w : ℕ) (o : Option ℕ) → (not (isLive o) && leb w limit) ≡ false → absent (foundAt w o) ≡ absent (foundAt w o) + revived limit (foundAt w o)
+    same : (w : ℕ) (o : Option ℕ) → (not (isLive o) && leb w limit) ≡ false → oneIfAbsent (foundAt w o) ≡ oneIfAbsent (foundAt w o) + oneIfRevived limit (foundAt w o)
     same w none h = rw h (omega arith)
     same w (some y) h = refl
 
-    gone : (w : ℕ) (o : Option ℕ) → (not (isLive o) && leb w limit) ≡ true → 1 ≡ absent (foundAt w o) + revived limit (foundAt w o)
+    gone : (w : ℕ) (o : Option ℕ) → (not (isLive o) && leb w limit) ≡ true → 1 ≡ oneIfAbsent (foundAt w o) + oneIfRevived limit (foundAt w o)
     gone w none h = rw h (omega arith)
     gone w (some y) h = let z : _≡_ {A = ℕ} 0 1 = cc in absurd (omega arith)
 
     go : (a b : Bool) → eqb (x .key) k ≡ a → old limit x ≡ b
-        → absent (foundOf (find k (keep (stays limit) es))) ≡ absent (foundOf (find k es)) + revived limit (foundOf (find k es))
-        → absent (foundOf (find k (if not b then x ∷ keep (stays limit) es else keep (stays limit) es))) ≡ absent (foundOf (find k (x ∷ es))) + revived limit (foundOf (find k (x ∷ es)))
+        → oneIfAbsent (foundOf (find k (keep (stays limit) es))) ≡ oneIfAbsent (foundOf (find k es)) + oneIfRevived limit (foundOf (find k es))
+        → oneIfAbsent (foundOf (find k (if not b then x ∷ keep (stays limit) es else keep (stays limit) es))) ≡ oneIfAbsent (foundOf (find k (x ∷ es))) + oneIfRevived limit (foundOf (find k (x ∷ es)))
     go true true p q h =
         let n : find k (keep (stays limit) es) ≡ none = find-none k {lo = x .key + 1} (omega (arith, eqb-true (x .key) k p)) (keep-rising (stays limit) r) in
         rw (p, n) (gone (x .position) (x .payload) q)
@@ -127,7 +127,7 @@ found-stays limit k (link {e = x} {es = es} l r) = go (eqb (x .key) k) (old limi
     go false false p q h = rw p h
 
 tally-stays : (limit low : ℕ) (ps : List Point) {lo hi : ℕ} {es : List Entry} → Rising hi lo es
-    → tally absent ps (keep (stays limit) es) ≡ tally absent ps es + tally (revived limit) ps es
+    → tally oneIfAbsent ps (keep (stays limit) es) ≡ tally oneIfAbsent ps es + tally (oneIfRevived limit) ps es
 unfolding tally
 tally-stays limit low [] r = refl
 tally-stays limit low (Read k ∷ ps) r = tally-stays limit low ps r
@@ -160,11 +160,11 @@ young-kept {S} l = keep-same {f = young (S .Z) (S .p + 1)} {g = stays (S .p + 1 
         (le-or-lt (S .Z) (S .p + 1))
 
 module _ {S : State} (l : Lawful S) (ps : List Point) (r : PointsRise 0 ps) where
-  pub whole-is : length (whole S ps) ≡ length (S .kept) + tally absent ps (S .kept)
+  pub whole-is : length (whole S ps) ≡ length (S .kept) + tally oneIfAbsent ps (S .kept)
   whole-is = length-storeAll (S .p + 1) 0 ps r (l .rising)
 
-  pub count-is : count S ps + length (keep (old (S .p + 1 - S .Z)) (S .kept)) ≡ length (S .kept) + tally absent ps (S .kept) + tally (revived (S .p + 1 - S .Z)) ps (S .kept)
+  pub count-is : count S ps + length (keep (old (S .p + 1 - S .Z)) (S .kept)) ≡ length (S .kept) + tally oneIfAbsent ps (S .kept) + tally (oneIfRevived (S .p + 1 - S .Z)) ps (S .kept)
   count-is =
-      let a : count S ps ≡ length (keep (stays (S .p + 1 - S .Z)) (S .kept)) + tally absent ps (keep (stays (S .p + 1 - S .Z)) (S .kept)) =
-      ap (λ (es : List Entry). length (storeAll (writesOf (S .p + 1) ps) es)) (young-kept l) ∙ length-storeAll (S .p + 1) 0 ps r (keep-rising (stays (S .p + 1 - S .Z)) (l .rising)) in
+      let a : count S ps ≡ length (keep (stays (S .p + 1 - S .Z)) (S .kept)) + tally oneIfAbsent ps (keep (stays (S .p + 1 - S .Z)) (S .kept)) =
+      count-stored S ps (l .rising) (written-sized (S .p + 1) 0 ps r) ∙ ap (λ (es : List Entry). length (storeAll (writesOf (S .p + 1) ps) es)) (young-kept l) ∙ length-storeAll (S .p + 1) 0 ps r (keep-rising (stays (S .p + 1 - S .Z)) (l .rising)) in
       omega (arith, a, tally-stays (S .p + 1 - S .Z) 0 ps (l .rising), length-stays (S .p + 1 - S .Z) (S .kept))

@@ -1,3 +1,4 @@
 pub mod Counts
 mod Turns
 mod Decides
+pub mod Only

@@ -1,12 +1,11 @@
 -- The turns of the loop that tallies points: what is counted so far and what the points from i on add make the whole.
 -- Assumes nothing.
-use Prim.Native.Nat.{ℕ, zero, suc, _+_, _^_, _≤_, _<_}
-use mathlib.Core.Path.{_≡_, refl, sym, ap, _∙_}
+use Prim.Native.Nat.{ℕ, _+_, _^_, _≤_, _<_}
+use mathlib.Core.Path.{_≡_, refl}
 use mathlib.Core.Bool.{Bool, true, false}
-use mathlib.Core.List.{List, [], _∷_}
+use mathlib.Core.List.{List}
 use native.Mathlib.Omega.{arith}
 use native.Mathlib.Numerals.{add-one}
-use native.Mathlib.Nat.{zero-add}
 use lib.ListN.{length, getD, drop, drop-of-length-le}
 use lib.Seq.{drop-cons}
 use lib.Dec.{eqb, leb}
@@ -18,31 +17,31 @@ use Rattle.find.specs.declared.Found.{Found}
 use Rattle.find.specs.declared.Found.the-variants.{Absent, Live, Tombstone}
 use Rattle.find.specs.Found.{foundIn}
 use Rattle.room.specs.declared.tally.Tally.{Tally}
-use Rattle.room.specs.Tally.{absent, revived, adds, tallyOf, Tallied, TallyIs}
+use Rattle.room.specs.Tally.{oneIfAbsent, oneIfRevived, adds, tallyOf, Tallied, TallyIs}
 
 -- ONE KEY
 
-pub one-old : (w limit : ℕ) (f : Found) → f ≡ Tombstone w → w ≤ limit → (0 ≡ absent f) × (1 ≡ revived limit f)
+pub one-old : (w limit : ℕ) (f : Found) → f ≡ Tombstone w → w ≤ limit → (0 ≡ oneIfAbsent f) × (1 ≡ oneIfRevived limit f)
 one-old w limit f e h = rw (e, le-leb w limit h) (refl, refl)
 
-pub one-young : (w limit : ℕ) (f : Found) → f ≡ Tombstone w → limit < w → (0 ≡ absent f) × (0 ≡ revived limit f)
+pub one-young : (w limit : ℕ) (f : Found) → f ≡ Tombstone w → limit < w → (0 ≡ oneIfAbsent f) × (0 ≡ oneIfRevived limit f)
 one-young w limit f e h = rw (e, lt-leb w limit h) (refl, refl)
 
 pub point-read : (m : List ℕ) (kind k limit : ℕ) → kind ≡ 1 → (A : Arrangement) → Image m A → Tallied kind k limit (stateOf A .kept) (record { absent = 0; revived = 0 })
 point-read m kind k limit e A i = record { absent-is = rw (eq-eqb kind 1 e); revived-is = rw (eq-eqb kind 1 e) }
 
 pub point-written : (m : List ℕ) (kind k limit : ℕ) (f : Found) (r : Tally) → (kind ≡ 1 → ⊥) → ((A : Arrangement) → Image m A → f ≡ foundIn k (stateOf A .kept))
-    → (r .absent ≡ absent f) × (r .revived ≡ revived limit f) → (A : Arrangement) → Image m A → Tallied kind k limit (stateOf A .kept) r
+    → (r .absent ≡ oneIfAbsent f) × (r .revived ≡ oneIfRevived limit f) → (A : Arrangement) → Image m A → Tallied kind k limit (stateOf A .kept) r
 point-written m kind k limit f r d e q A i =
     record { absent-is = rw (ne-eqb kind 1 d, ← (e A i)) (q .0); revived-is = rw (ne-eqb kind 1 d, ← (e A i)) (q .1) }
 
 -- at most one each
-pub small-absent : (f : Found) → absent f ≤ 1
+pub small-absent : (f : Found) → oneIfAbsent f ≤ 1
 small-absent Absent = omega arith
 small-absent (Live x w) = omega arith
 small-absent (Tombstone w) = omega arith
 
-pub small-revived : (limit : ℕ) (f : Found) → revived limit f ≤ 1
+pub small-revived : (limit : ℕ) (f : Found) → oneIfRevived limit f ≤ 1
 small-revived limit Absent = omega arith
 small-revived limit (Live x w) = omega arith
 small-revived limit (Tombstone w) = go (leb w limit)
@@ -65,9 +64,9 @@ pub record Going (m kinds ks : List ℕ) (limit a v i : ℕ) : Type 0 where
   pub within : i ≤ length ks
   pub few-absent : a ≤ i
   pub few-revived : v ≤ i
-  pub absent-so-far : (A : Arrangement) → Image m A → a + tallyOf absent (drop i kinds) (drop i ks) (stateOf A .kept) ≡ tallyOf absent kinds ks (stateOf A .kept)
+  pub absent-so-far : (A : Arrangement) → Image m A → a + tallyOf oneIfAbsent (drop i kinds) (drop i ks) (stateOf A .kept) ≡ tallyOf oneIfAbsent kinds ks (stateOf A .kept)
   pub revived-so-far : (A : Arrangement) → Image m A
-      → v + tallyOf (revived limit) (drop i kinds) (drop i ks) (stateOf A .kept) ≡ tallyOf (revived limit) kinds ks (stateOf A .kept)
+      → v + tallyOf (oneIfRevived limit) (drop i kinds) (drop i ks) (stateOf A .kept) ≡ tallyOf (oneIfRevived limit) kinds ks (stateOf A .kept)
 
 module _ (m kinds ks : List ℕ) (limit : ℕ) where
   pub starts : Going m kinds ks limit 0 0 0
@@ -80,8 +79,8 @@ module _ (m kinds ks : List ℕ) (limit : ℕ) where
     small =
         let t = one (fit .arrangement) (fit .image) in
         let es = stateOf (fit .arrangement) .kept in (
-          omega (arith, t .absent-is, small-adds absent small-absent (getD kinds i 0) (getD ks i 0) es),
-          omega (arith, t .revived-is, small-adds (revived limit) (small-revived limit) (getD kinds i 0) (getD ks i 0) es),
+          omega (arith, t .absent-is, small-adds oneIfAbsent small-absent (getD kinds i 0) (getD ks i 0) es),
+          omega (arith, t .revived-is, small-adds (oneIfRevived limit) (small-revived limit) (getD kinds i 0) (getD ks i 0) es),
         )
 
     turn : (f : Found → ℕ) (es : List Entry) → tallyOf f (drop i kinds) (drop i ks) es ≡ adds f (getD kinds i 0) (getD ks i 0) es + tallyOf f (drop (i + 1) kinds) (drop (i + 1) ks) es
@@ -94,8 +93,8 @@ module _ (m kinds ks : List ℕ) (limit : ℕ) where
           within = omega arith;
           few-absent = omega (arith, g .few-absent, small);
           few-revived = omega (arith, g .few-revived, small);
-          absent-so-far = λ A q. omega (arith, g .absent-so-far A q, turn absent (stateOf A .kept), one A q .absent-is);
-          revived-so-far = λ A q. omega (arith, g .revived-so-far A q, turn (revived limit) (stateOf A .kept), one A q .revived-is);
+          absent-so-far = λ A q. omega (arith, g .absent-so-far A q, turn oneIfAbsent (stateOf A .kept), one A q .absent-is);
+          revived-so-far = λ A q. omega (arith, g .revived-so-far A q, turn (oneIfRevived limit) (stateOf A .kept), one A q .revived-is);
         }
 
     pub fits-absent : length ks ≤ 64 → a + r .absent < 2 ^ 32
@@ -108,10 +107,10 @@ module _ (m kinds ks : List ℕ) (limit : ℕ) where
   unfolding tallyOf
   none-left f i es h same = rw (drop-of-length-le kinds {i = i} (omega arith))
 
-  pub ends : (a v i : ℕ) → Going m kinds ks limit a v i → length ks ≤ i → length kinds ≡ length ks
+  pub loop-ends : (a v i : ℕ) → Going m kinds ks limit a v i → length ks ≤ i → length kinds ≡ length ks
       → (A : Arrangement) → Image m A → TallyIs kinds ks limit (stateOf A .kept) (record { absent = a; revived = v })
-  ends a v i g h same A q =
+  loop-ends a v i g h same A q =
       record {
-        absent-is = omega (arith, g .absent-so-far A q, none-left absent i (stateOf A .kept) h same);
-        revived-is = omega (arith, g .revived-so-far A q, none-left (revived limit) i (stateOf A .kept) h same);
+        absent-is = omega (arith, g .absent-so-far A q, none-left oneIfAbsent i (stateOf A .kept) h same);
+        revived-is = omega (arith, g .revived-so-far A q, none-left (oneIfRevived limit) i (stateOf A .kept) h same);
       }

@@ -1,6 +1,6 @@
 -- The keys that a record writes, counted by what is kept under them.
 -- Assumes nothing: these are definitions.
-use Prim.Native.Nat.{ℕ, _+_, _≤_}
+use Prim.Native.Nat.{ℕ, _+_}
 use mathlib.Core.Path.{_≡_}
 use mathlib.Core.List.{List, [], _∷_}
 use lib.Dec.{leb, eqb}
@@ -12,16 +12,16 @@ use Rattle.find.specs.Found.{foundIn}
 use Rattle.room.specs.declared.tally.Tally.{Tally}
 
 -- one for a key that is not kept
-abbrev pub absent : Found → ℕ
-absent Absent = 1
-absent (Live x w) = 0
-absent (Tombstone w) = 0
+abbrev pub oneIfAbsent : Found → ℕ
+oneIfAbsent Absent = 1
+oneIfAbsent (Live x w) = 0
+oneIfAbsent (Tombstone w) = 0
 
 -- one for a tombstone that is old
-abbrev pub revived : ℕ → Found → ℕ
-revived limit Absent = 0
-revived limit (Live x w) = 0
-revived limit (Tombstone w) = if leb w limit then 1 else 0
+abbrev pub oneIfRevived : ℕ → Found → ℕ
+oneIfRevived limit Absent = 0
+oneIfRevived limit (Live x w) = 0
+oneIfRevived limit (Tombstone w) = if leb w limit then 1 else 0
 
 -- what a point of a kind adds: a read writes nothing
 abbrev pub adds : (Found → ℕ) → ℕ → ℕ → List Entry → ℕ
@@ -35,10 +35,10 @@ tallyOf f (kind ∷ kinds) (k ∷ ks) es = adds f kind k es + tallyOf f kinds ks
 
 -- one point's part
 pub record Tallied (kind k limit : ℕ) (es : List Entry) (r : Tally) : Type 0 where
-  pub absent-is : r .absent ≡ adds absent kind k es
-  pub revived-is : r .revived ≡ adds (revived limit) kind k es
+  pub absent-is : r .absent ≡ adds oneIfAbsent kind k es
+  pub revived-is : r .revived ≡ adds (oneIfRevived limit) kind k es
 
 -- all points
 pub record TallyIs (kinds ks : List ℕ) (limit : ℕ) (es : List Entry) (r : Tally) : Type 0 where
-  pub absent-is : r .absent ≡ tallyOf absent kinds ks es
-  pub revived-is : r .revived ≡ tallyOf (revived limit) kinds ks es
+  pub absent-is : r .absent ≡ tallyOf oneIfAbsent kinds ks es
+  pub revived-is : r .revived ≡ tallyOf (oneIfRevived limit) kinds ks es

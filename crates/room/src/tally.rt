@@ -5,7 +5,7 @@ ghost use mathlib.Core.Path.{_≡_};
 ghost use Prim.Native.Nat.{_≤_};
 ghost use lib.ListN.{length};
 ghost use Rattle.pool.specs.Image.{Arrangement, Image, Fit, stateOf};
-ghost use Rattle.room.specs.Tally.{absent, revived, Tallied, TallyIs};
+ghost use Rattle.room.specs.Tally.{oneIfAbsent, oneIfRevived, Tallied, TallyIs};
 
 pub struct Tally {
     // Keys that are not kept.
@@ -16,7 +16,7 @@ pub struct Tally {
 
 // What one key adds.
 fn tally_one(found: Found, limit: u32) -> Tally
-    ensures { λ r. ⌜ (r .absent ≡ absent found) × (r .revived ≡ revived limit found) ⌝ }
+    ensures { λ r. ⌜ (r .absent ≡ oneIfAbsent found) × (r .revived ≡ oneIfRevived limit found) ⌝ }
 {
     match found {
         Found::Absent => Tally {

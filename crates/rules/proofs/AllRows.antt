@@ -4,12 +4,12 @@ use mathlib.Core.Path.{refl}
 use Rattle.words.specs.Word.{word, bigEndian}
 use Rattle.record.specs.Parse.{parse, stepPoint, stepScan, parsePoints, parseScans}
 use Rattle.rules.specs.Footprint.{reach, meets}
-use Rattle.rules.specs.Verdict.{hits, store, storeAll, young, apply, judge, verdict, next}
+use Rattle.rules.specs.Verdict.{hits, refusalOr, store, storeAll, young, drops, apply, count, judge, verdict, next}
 use Rattle.rules.specs.Log.{after}
 use Rattle.rules.specs.Tree.{treeOf, newest, walk, looksOf}
 use Rattle.rules.specs.Table.{Table, rows, run}
 
 -- the table of document 01 holds
 pub table : Table
-unfolding word bigEndian parse stepPoint stepScan parsePoints parseScans reach meets hits store storeAll young apply judge verdict next after treeOf newest walk looksOf rows run
+unfolding word bigEndian parse stepPoint stepScan parsePoints parseScans reach meets hits refusalOr store storeAll young drops apply count judge verdict next after treeOf newest walk looksOf rows run
 table = record { written = refl; read = refl; melded = refl; kept-keys = refl; first = refl; second = refl }

@@ -1,36 +1,18 @@
--- "inner nodes stand exactly where kept keys first differ, bit 31 down; keys with that bit 0 are on the left", and "An inner node covers
--- every 32-bit number that shares its keys' common leading bits": said with bits, and proved of the tree of the entries.
+-- Inner nodes stand where keys first differ, with that bit 0 on the left (R32), and what a node covers is every number that shares its keys'
+-- leading bits (R33): said with bits, and proved of the tree of the entries.
 -- Assumes nothing.
 use Prim.Native.Nat.{ℕ, suc, _+_, _*_, _/_, _^_, _≤_, _<_}
 use native.Mathlib.Omega.{arith}
 use native.Mathlib.Nat.{div-eq-of-lt-le, div-mul-le-self, lt-div-mul-add, mul-assoc, mul-comm, add-mul, one-mul, pow-succ'}
 use mathlib.Core.Path.{_≡_, refl, sym, ap, _∙_}
 use mathlib.Core.Logic.{_↔_}
-use mathlib.Core.List.{List, List·Memᴰ as Mem}
-use lib.Dec.{T}
+use mathlib.Core.List.{List}
 use lib.Pow.{pow-pos}
 use Rattle.rules.specs.State.{Entry, Rising}
-use Rattle.rules.specs.Tree.{Tree, empty, leaf, node, entries, treeOf}
+use Rattle.rules.specs.Tree.{Tree, treeOf}
 use Rattle.rules.proofs.Sorted.{rising-mem}
-use Rattle.rules.specs.Shape.{Canonical, none, one, two, on-left, on-right, full}
+use Rattle.rules.specs.Shape.{Canonical, none, one, two, on-left, on-right, AllSplit, nothing, at-leaf, at-node}
 use Rattle.rules.proofs.Trees.{canonical-rising, treeOf-canonical}
-
--- a node splits at a bit: both sides hold keys, all of them with the same leading bits above it, 0 there on the left and 1 on the right
-pub record Splits (h low : ℕ) (l r : Tree) : Type 0 where
-  pub bit : ℕ
-  pub leading : ℕ
-  pub height : h ≡ bit + 1
-  pub lowest : low ≡ leading * 2 ^ h
-  pub left-full : T (full l)
-  pub right-full : T (full r)
-  pub left-keys : (e : Entry) → Mem e (entries l) → e .key / 2 ^ bit ≡ 2 * leading
-  pub right-keys : (e : Entry) → Mem e (entries r) → e .key / 2 ^ bit ≡ 2 * leading + 1
-
--- every node of the tree does
-pub data Split : Tree → Type 0 where
-  nothing : Split empty
-  at-leaf : {e : Entry} → Split (leaf e)
-  at-node : {h low : ℕ} {l r : Tree} → Splits h low l r → Split l → Split r → Split (node h low l r)
 
 -- a power doubled
 double-power : (h : ℕ) → 2 ^ suc h ≡ 2 * 2 ^ h
@@ -56,7 +38,7 @@ cover-shares b k x = (
 )
 
 -- a tree of the shape from b · 2 ^ h on splits at bits
-pub canonical-split : (b : ℕ) {h low : ℕ} {t : Tree} → low ≡ b * 2 ^ h → Canonical h low t → Split t
+pub canonical-split : (b : ℕ) {h low : ℕ} {t : Tree} → low ≡ b * 2 ^ h → Canonical h low t → AllSplit t
 canonical-split b e none = nothing
 canonical-split b e (one x y) = at-leaf
 canonical-split b e (two {h = h} {low = low} {l = l} {r = r} x y f g) =
@@ -79,5 +61,5 @@ canonical-split b e (on-right {h = h} {low = low} f) =
     canonical-split (2 * b + 1) j f
 
 -- in a state's tree inner nodes stand where kept keys first differ
-pub tree-split : {es : List Entry} → Rising (2 ^ 32) 0 es → Split (treeOf 32 0 es)
+pub tree-split : {es : List Entry} → Rising (2 ^ 32) 0 es → AllSplit (treeOf 32 0 es)
 tree-split r = canonical-split 0 refl (treeOf-canonical 32 0 r)

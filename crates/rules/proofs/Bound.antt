@@ -24,7 +24,7 @@ use Rattle.rules.specs.Shape.{Canonical, none, one, two, on-left, on-rig
 use Rattle.rules.proofs.Trees.{canonical-rising, double, treeOf-canonical}
 use Rattle.rules.proofs.Newest.{newest-leaf}
 use Rattle.rules.proofs.Search.{walk-complete}
-use Rattle.rules.proofs.Marks.{marks, marks-cut, marks-all, Marked, covers, ends, ends-length, ends-marked, apart-ordered}
+use Rattle.rules.proofs.Marks.{marks, marks-cut, marks-all, Marked, covers, marksOf, marks-length, marks-marked, apart-ordered}
 
 -- looks at a tree of height h with b marks in its range
 record Few (w : Walked) (h b : ℕ) : Type 0 where
@@ -92,20 +92,20 @@ module _ (s : ℕ) (f : List Scan) (ks : List ℕ) (mk : Marked f ks) where
 -- FOR A RECORD AND A STATE
 
 -- what bounds the walk's looks bounds the looks reported
-looksFor-bound : (S : State) (r : Rec) (n : ℕ) (a : Verdict) → walkOf S (some r) .looks ≤ n → looksFor S (some r) a ≤ n
-looksFor-bound S r n committed h = h
-looksFor-bound S r n conflict h = h
-looksFor-bound S r n tooOld h = omega arith
-looksFor-bound S r n noRoom h = h
-looksFor-bound S r n malformed h = omega arith
-looksFor-bound S r n ahead h = omega arith
-looksFor-bound S r n positionsUsedUp h = omega arith
+looksFor-bound : (w n : ℕ) (a : Verdict) → w ≤ n → looksFor w a ≤ n
+looksFor-bound w n committed h = h
+looksFor-bound w n conflict h = h
+looksFor-bound w n tooOld h = omega arith
+looksFor-bound w n noRoom h = h
+looksFor-bound w n malformed h = omega arith
+looksFor-bound w n ahead h = omega arith
+looksFor-bound w n positionsUsedUp h = omega arith
 
 -- "never exceed 65 + 64·(points + 2·scans)", for any well-formed record and any state
 pub looks-limit : {S : State} {r : Rec} → Lawful S → Valid r → looksOf S (some r) ≤ 65 + 64 * (length (r .points) + 2 * length (r .scans))
 unfolding looksOf
-looks-limit {S} {r} l v = looksFor-bound S r (65 + 64 * (length (r .points) + 2 * length (r .scans))) (verdict S (some r))
-    (rw (← (ends-length r)) (looks-bound (r .snapshot) (reach r) (ends r) (ends-marked r (apart-ordered 0 (r .scans) (v .apart))) (treeOf-canonical 32 0 (l .rising))))
+looks-limit {S} {r} l v = looksFor-bound (walkOf S (some r) .looks) (65 + 64 * (length (r .points) + 2 * length (r .scans))) (verdict S (some r))
+    (rw (← (marks-length r)) (looks-bound (r .snapshot) (reach r) (marksOf r) (marks-marked r (apart-ordered 0 (r .scans) (v .apart))) (treeOf-canonical 32 0 (l .rising))))
 
 -- "5,185 for the fullest record"
 pub looks-fullest : {S : State} {r : Rec} → Lawful S → Valid r → looksOf S (some r) ≤ 5185

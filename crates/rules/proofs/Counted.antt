@@ -1,31 +1,28 @@
--- Row 3's count, and the count of the drop, are numbers of distinct keys.
+-- Row 3's count, and the count of the drop, are how many entries would be stored.
 -- The idea: a list of keys in which none stands twice is no longer than any list that holds them all; so two such lists that hold the same
 -- keys are equally long. Stored entries rise by key, so their keys are such a list.
 -- Assumes nothing.
 use Prim.Native.Nat.{ℕ, suc, _+_, _^_, _≤_, _<_}
 use native.Mathlib.Omega.{arith}
-use mathlib.Core.Path.{_≡_, refl, sym, subst, _∙_}
+use mathlib.Core.Path.{_≡_, refl, sym, ap, subst, _∙_}
 use mathlib.Core.Logic.{_⊎_, inl, inr, ⊎-elim}
 use mathlib.Core.List.{List, [], _∷_, _++_, map, List·Memᴰ as Mem, List·Memᴰ·head as here, List·Memᴰ·tail as there, Memᴰ·append-left as in-left, Memᴰ·append-right as in-right, List·Memᴰ·append-cases as in-append}
-use lib.Dec.{T, eqb, eqb→eq, T-not}
+use lib.Dec.{T, ltb, eqb, eqb→eq, T-not}
 use lib.ListN.{length, length-map}
 use Rattle.record.specs.Record.{Rec, Valid}
+use Rattle.record.specs.declared.point.Point.{Point}
 use Rattle.words.specs.Choice.{if_then_else_}
-use Rattle.rules.specs.Lists.{any, keep, distinct}
+use Rattle.rules.specs.Lists.{any, keep, distinct, NoneTwice, nil, cons}
 use Rattle.rules.specs.State.{Entry, State, keyIn, Rising, end, link, Lawful}
 use Rattle.rules.specs.Footprint.{writesOf}
-use Rattle.rules.specs.Verdict.{store, storeAll, young, whole, count}
-use Rattle.rules.proofs.Tests.{if-ind, is-true, yes-eq, any-of, of-any, mem-map, of-map}
+use Rattle.rules.specs.Verdict.{store, storeAll, young, whole, lean, keptOrWritten, drops, counted, count}
+use Rattle.rules.specs.EntryFits.{EntryFits}
+use Rattle.rules.proofs.Tests.{if-ind, is-true, yes-eq, any-of, of-any, keep-mem, mem-map, of-map}
 use Rattle.rules.proofs.Stored.{store-self, store-other, storeAll-mem}
 use Rattle.rules.proofs.Sorted.{rising-mem, keep-rising, storeAll-rising}
 use Rattle.rules.proofs.Written.{written-sized}
 
 -- NO KEY TWICE
-
--- none of the numbers stands twice
-pub data Once : List ℕ → Type 0 where
-  nil : Once []
-  cons : {k : ℕ} {ks : List ℕ} → (Mem k ks → ⊥) → Once ks → Once (k ∷ ks)
 
 -- a list without one occurrence of a number
 without : ℕ → List ℕ → List ℕ
@@ -45,14 +42,14 @@ without-mem k (x ∷ xs) {j} n (here p) = if-ind (λ (l : List ℕ). Mem j l) (e
 without-mem k (x ∷ xs) {j} n (there m) = if-ind (λ (l : List ℕ). Mem j l) (eqb x k) (λ _. m) (λ _. there (without-mem k xs n m))
 
 -- no longer than any list that holds them all
-pub once-le : {ks : List ℕ} → Once ks → (xs : List ℕ) → ((k : ℕ) → Mem k ks → Mem k xs) → length ks ≤ length xs
+pub once-le : {ks : List ℕ} → NoneTwice ks → (xs : List ℕ) → ((k : ℕ) → Mem k ks → Mem k xs) → length ks ≤ length xs
 once-le nil xs h = omega arith
 once-le (cons {k = k} {ks = ks} n o) xs h =
     let a = once-le o (without k xs) (λ j m. without-mem k xs (λ e. n (subst (λ (i : ℕ). Mem i ks) e m)) (h j (there m))) in
     omega (arith, without-length k xs (h k (here refl)))
 
 -- two lists of the same numbers, none twice, are equally long
-pub once-length : {ks js : List ℕ} → Once ks → Once js → ((k : ℕ) → Mem k ks → Mem k js) → ((k : ℕ) → Mem k js → Mem k ks) → length ks ≡ length js
+pub once-length : {ks js : List ℕ} → NoneTwice ks → NoneTwice js → ((k : ℕ) → Mem k ks → Mem k js) → ((k : ℕ) → Mem k js → Mem k ks) → length ks ≡ length js
 once-length {ks} {js} a b f g = omega (arith, once-le a js f, once-le b ks g)
 
 -- DISTINCT
@@ -73,15 +70,15 @@ of-distinct (j ∷ ks) {k} (here e) = if-ind (λ (l : List ℕ). Mem k l) (any (
 of-distinct (j ∷ ks) {k} (there m) = if-ind (λ (l : List ℕ). Mem k l) (any (eqb j) ks) (λ _. of-distinct ks m) (λ _. there (of-distinct ks m))
 
 -- none of the distinct stands twice
-pub distinct-once : (ks : List ℕ) → Once (distinct ks)
+pub distinct-once : (ks : List ℕ) → NoneTwice (distinct ks)
 distinct-once [] = nil
-distinct-once (j ∷ ks) = if-ind Once (any (eqb j) ks) (λ _. distinct-once ks)
+distinct-once (j ∷ ks) = if-ind NoneTwice (any (eqb j) ks) (λ _. distinct-once ks)
     (λ t. cons (λ m. T-not (any (eqb j) ks) t (any-of (eqb j) (distinct-of ks m) (yes-eq {a = j} refl))) (distinct-once ks))
 
 -- STORED ENTRIES
 
 -- where keys rise none stands twice
-pub rising-once : {low top : ℕ} {es : List Entry} → Rising top low es → Once (map keyIn es)
+pub rising-once : {low top : ℕ} {es : List Entry} → Rising top low es → NoneTwice (map keyIn es)
 rising-once (end h) = nil
 rising-once (link {e = e} {es = es} h r) = cons (λ (m : Mem (e .key) (map keyIn es)). let x = of-map keyIn es m in let k = rising-mem r (x .1) in omega (arith, x .2)) (rising-once r)
 
@@ -118,16 +115,42 @@ stored-count ws {es} k r =
     back j (inl m) = storeAll-keys ws es m
     back j (inr m) = storeAll-new ws es m
 
--- FOR A RECORD AND A STATE
+-- FOR POINTS AND A STATE
 
--- the keys that row 3 counts: live keys, tombstones w with w + Z > v, and the keys the record writes
-abbrev pub counted : State → Rec → List ℕ
-counted S r = map keyIn (keep (young (S .Z) (S .p + 1)) (S .kept)) ++ map keyIn (writesOf (S .p + 1) (r .points))
+module _ (S : State) (ps : List Point) (rising : Rising (2 ^ 32) 0 (S .kept)) (sized : (e : Entry) → Mem e (writesOf (S .p + 1) ps) → EntryFits e) where
+  -- R26's keys, each once, are as many as there are entries once the writes are stored and the old tombstones are gone
+  pub count-stored : count S ps ≡ length (lean S ps)
+  unfolding count
+  count-stored = sym (stored-count (writesOf (S .p + 1) ps) (λ e m. sized e m .0) (keep-rising (young (S .Z) (S .p + 1)) rising))
 
--- "live keys, tombstones w with w + Z > v, and the keys this record writes are together": how many distinct keys that is
-pub row-three : {S : State} {r : Rec} → Lawful S → Valid r → count S (r .points) ≡ length (distinct (counted S r))
-row-three {S} {r} l v = stored-count (writesOf (S .p + 1) (r .points)) (λ e m. written-sized (S .p + 1) 0 (r .points) (v .rising) e m .0) (keep-rising (young (S .Z) (S .p + 1)) (l .rising))
+  -- R27's keys, each once, are as many as there are entries once the writes are stored
+  pub taken-stored : length (distinct (keptOrWritten S ps)) ≡ length (whole S ps)
+  taken-stored = sym (stored-count (writesOf (S .p + 1) ps) (λ e m. sized e m .0) rising)
 
--- "the kept keys and the keys written are together"
-pub drop-count : {S : State} {r : Rec} → Lawful S → Valid r → length (whole S (r .points)) ≡ length (distinct (map keyIn (S .kept) ++ map keyIn (writesOf (S .p + 1) (r .points))))
-drop-count {S} {r} l v = stored-count (writesOf (S .p + 1) (r .points)) (λ e m. written-sized (S .p + 1) 0 (r .points) (v .rising) e m .0) (l .rising)
+  -- so the drop turns on these
+  pub drops-whole : drops S ps ≡ ltb (S .N) (length (whole S ps))
+  unfolding drops
+  drops-whole = ap (ltb (S .N)) taken-stored
+
+  -- R26's keys are no more than R27's
+  pub count-whole : count S ps ≤ length (whole S ps)
+  unfolding count
+  count-whole = rw (← taken-stored) (once-le (distinct-once (counted S ps)) (distinct (keptOrWritten S ps))
+      (λ k m. of-distinct (keptOrWritten S ps) (among k (in-append (map keyIn (keep (young (S .Z) (S .p + 1)) (S .kept))) (distinct-of (counted S ps) m)))))
+    where
+      among : (k : ℕ) → Mem k (map keyIn (keep (young (S .Z) (S .p + 1)) (S .kept))) ⊎ Mem k (map keyIn (writesOf (S .p + 1) ps)) → Mem k (keptOrWritten S ps)
+      among k (inl m) =
+          let x = of-map keyIn (keep (young (S .Z) (S .p + 1)) (S .kept)) m in
+          in-left (map keyIn (writesOf (S .p + 1) ps))
+          (subst (λ (j : ℕ). Mem j (map keyIn (S .kept))) (sym (x .2)) (mem-map keyIn (keep-mem (young (S .Z) (S .p + 1)) (S .kept) (x .1))))
+      among k (inr m) = in-right (map keyIn (S .kept)) m
+
+-- FOR A RECORD AND A LAWFUL STATE
+
+-- row 3's count is how many entries would be stored, were the old tombstones dropped
+pub row-three : {S : State} {r : Rec} → Lawful S → Valid r → count S (r .points) ≡ length (lean S (r .points))
+row-three {S} {r} l v = count-stored S (r .points) (l .rising) (written-sized (S .p + 1) 0 (r .points) (v .rising))
+
+-- the drop turns on how many entries would be stored, were none dropped
+pub drop-count : {S : State} {r : Rec} → Lawful S → Valid r → drops S (r .points) ≡ ltb (S .N) (length (whole S (r .points)))
+drop-count {S} {r} l v = drops-whole S (r .points) (l .rising) (written-sized (S .p + 1) 0 (r .points) (v .rising))

@@ -8,13 +8,12 @@ use mathlib.Core.Bool.{Bool, not, _||_}
 use mathlib.Core.List.{List, [], _∷_, _++_, append-nil, append-assoc, List·Memᴰ as Mem, List·Memᴰ·head as here, List·Memᴰ·tail as there}
 use mathlib.Core.Option.{Option, none, some}
 use lib.Dec.{T, ltb, eqb, eqb→eq}
-use lib.ListN.{length}
 use Rattle.record.specs.declared.point.Point.{Point}
 use Rattle.words.specs.Choice.{if_then_else_}
 use Rattle.rules.specs.Lists.{keep}
 use Rattle.rules.specs.State.{Entry, State, fresh, isLive, Rising, end, link}
 use Rattle.rules.specs.Footprint.{writesOf}
-use Rattle.rules.specs.Verdict.{Verdict, committed, conflict, tooOld, noRoom, malformed, ahead, positionsUsedUp, storeAll, young, whole, apply, pointsOf, verdict, left, next}
+use Rattle.rules.specs.Verdict.{Verdict, committed, conflict, tooOld, noRoom, malformed, ahead, positionsUsedUp, storeAll, young, drops, apply, pointsOf, verdict, left, next}
 use Rattle.rules.specs.Log.{Log, WellFormed, after, wrote, commits}
 use Rattle.rules.specs.Lookup.{absent, find, seen, payloadAt, lookup}
 use Rattle.rules.specs.Demands.{lastWrite}
@@ -84,7 +83,7 @@ shows-store ws {es} {C} b f = record {
 -- after a commit
 shows-commit : (S : State) {C : List Entry} (ps : List Point) → ((e : Entry) → Mem e (writesOf (S .p + 1) ps) → EntryFits e) → Shows (S .kept) C → Shows (apply S ps) (C ++ writesOf (S .p + 1) ps)
 unfolding apply
-shows-commit S {C} ps b f = if-ind (λ (es : List Entry). Shows es (C ++ writesOf (S .p + 1) ps)) (ltb (S .N) (length (whole S ps)))
+shows-commit S {C} ps b f = if-ind (λ (es : List Entry). Shows es (C ++ writesOf (S .p + 1) ps)) (drops S ps)
     (λ _. shows-store (writesOf (S .p + 1) ps) b (shows-keep (S .Z) (S .p + 1) f)) (λ _. shows-store (writesOf (S .p + 1) ps) b f)
 
 -- after a record with any verdict

@@ -16,9 +16,9 @@ use Rattle.rules.specs.Log.{Log, after, commits, writtenIn}
 use Rattle.rules.proofs.Tests.{le-or-lt}
 use Rattle.rules.proofs.Reach.{hits-of, of-hits}
 use Rattle.rules.proofs.Positions.{after-up, after-Z, commits-above}
-use Rattle.rules.proofs.RowOne.{Holds, holds-after, holds-agree, of-written, written-of}
+use Rattle.rules.proofs.RowOne.{HoldsWrites, holds-after, holds-agree, of-written, written-of}
 
-module _ {S : State} {C : List Entry} (h : Holds S C) (ms : Log) (s : ℕ) (f : List Scan) (low : s ≤ S .p) (near : after S ms .p ≤ s + S .Z) where
+module _ {S : State} {C : List Entry} (h : HoldsWrites S C) (ms : Log) (s : ℕ) (f : List Scan) (low : s ≤ S .p) (near : after S ms .p ≤ s + S .Z) where
   -- row 1 at the first place
   here-agree : any (hits s f) (S .kept) ≡ writtenIn s (S .p) f C
   here-agree = holds-agree h s f (omega (arith, after-up S ms))

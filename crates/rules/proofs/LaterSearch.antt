@@ -3,7 +3,7 @@
 -- Assumes nothing.
 use Prim.Native.Nat.{ℕ, zero, suc, _+_, _^_, _≤_, _<_}
 use native.Mathlib.Omega.{arith}
-use mathlib.Core.Path.{_≡_, refl, sym, _∙_}
+use mathlib.Core.Path.{refl, sym, _∙_}
 use mathlib.Core.Logic.{⊎-elim}
 use mathlib.Core.Bool.{Bool, true, false, not, _&&_, _||_}
 use mathlib.Core.List.{List, [], _∷_, List·Memᴰ as Mem, List·Memᴰ·head as here, List·Memᴰ·tail as there, Memᴰ·append-left as in-left, Memᴰ·append-right as in-right, List·Memᴰ·append-cases as in-append}
@@ -16,8 +16,8 @@ use Rattle.rules.specs.Lists.{keep}
 use Rattle.rules.specs.State.{Entry, State}
 use Rattle.rules.specs.Footprint.{reach, meets}
 use Rattle.rules.specs.Verdict.{hits}
-use Rattle.rules.specs.Tree.{Tree, empty, leaf, node, entries, below, from, treeOf, newest, Walked, stop, descend, walk, walkOf}
-use Rattle.rules.specs.Refresh.{at}
+use Rattle.rules.specs.Tree.{Tree, empty, leaf, node, entries, below, from, treeOf, newest, Walked, stop, descend, walk, walkOf, NoMoreLooks}
+use Rattle.rules.specs.Refresh.{withSnapshot}
 use Rattle.rules.proofs.Tests.{if-ind, and-of, left-of, right-of, le-or-lt, same, keep-mem}
 use Rattle.rules.proofs.Reach.{hits-of, of-hits}
 use Rattle.rules.proofs.Trees.{entries-join}
@@ -37,26 +37,21 @@ tree-mem (suc h) low (x ∷ y ∷ es) {e} m = ⊎-elim
     (λ (b : Mem e (entries (treeOf h (low + 2 ^ h) (keep (from (low + 2 ^ h)) (x ∷ y ∷ es))))). keep-mem (from (low + 2 ^ h)) (x ∷ y ∷ es) (tree-mem h (low + 2 ^ h) _ b))
     (in-append _ (rw entries-join at m))
 
--- the second walk finds what the first finds, and looks no more often
-pub record NoMore (w′ w : Walked) : Type 0 where
-  pub finds : w′ .found ≡ w .found
-  pub looks-le : w′ .looks ≤ w .looks
-
 -- the same choice, each side no more
 either-le : (b : Bool) {x′ x y′ y : ℕ} → x′ ≤ x → y′ ≤ y → (if b then x′ else y′) ≤ (if b then x else y)
 either-le true h k = h
 either-le false h k = k
 
 -- both children no more, the node no more
-descend-le : {l′ l r′ r : Walked} → NoMore l′ l → NoMore r′ r → NoMore (descend l′ r′) (descend l r)
+descend-le : {l′ l r′ r : Walked} → NoMoreLooks l′ l → NoMoreLooks r′ r → NoMoreLooks (descend l′ r′) (descend l r)
 descend-le {l′} {l} {r′} {r} a b = record { finds = cc; looks-le = rw (a .finds) (either-le (l .found) (omega (arith, a .looks-le)) (omega (arith, a .looks-le, b .looks-le))) }
 
 -- a walk that stops, against one that goes on and finds nothing
-stop-le : (l r : Walked) → (T (descend l r .found) → ⊥) → NoMore stop (descend l r)
+stop-le : (l r : Walked) → (T (descend l r .found) → ⊥) → NoMoreLooks stop (descend l r)
 stop-le l r n = record { finds = same false (l .found || r .found) (λ t. absurd t) n; looks-le = if-ind (λ k. 1 ≤ k) (l .found) (λ _. omega arith) (λ _. omega arith) }
 
 -- both go on, or the first stops
-cut-le : (b′ b : Bool) (w′ w : Walked) → (T b′ → T b) → (T b → NoMore w′ w) → (T b → T (not b′) → NoMore stop w) → NoMore (if b′ then w′ else stop) (if b then w else stop)
+cut-le : (b′ b : Bool) (w′ w : Walked) → (T b′ → T b) → (T b → NoMoreLooks w′ w) → (T b → T (not b′) → NoMoreLooks stop w) → NoMoreLooks (if b′ then w′ else stop) (if b then w else stop)
 cut-le true true w′ w i j k = j tt
 cut-le true false w′ w i j k = absurd (i tt)
 cut-le false true w′ w i j k = k tt tt
@@ -68,7 +63,7 @@ module _ (s q : ℕ) (f : List Scan) (le : s ≤ q) where
   hits-down e t = let h = of-hits q f e t in hits-of s f e (omega arith) (h .1)
 
   -- where every hit above s is one above q, the walk with q finds the same in no more looks
-  pub walk-le : (t : Tree) → ((e : Entry) → Mem e (entries t) → T (hits s f e) → T (hits q f e)) → NoMore (walk q f t) (walk s f t)
+  pub walk-le : (t : Tree) → ((e : Entry) → Mem e (entries t) → T (hits s f e) → T (hits q f e)) → NoMoreLooks (walk q f t) (walk s f t)
   unfolding entries walk
   walk-le empty h = record { finds = refl; looks-le = omega arith }
   walk-le (leaf x) h = record { finds = leaf-hits q f x ∙ same (hits q f x) (hits s f x) (hits-down x) (h x (here refl)) ∙ sym (leaf-hits s f x); looks-le = omega arith }
@@ -91,7 +86,7 @@ module _ (s q : ℕ) (f : List Scan) (le : s ≤ q) where
 -- a larger snapshot q, with no write of a key named or scanned at s + 1 .. q: the same in no more looks
 pub later-snapshot : (S : State) (r : Rec) (q : ℕ) → r .snapshot ≤ q
     → ((e : Entry) → Mem e (S .kept) → T (meets (reach r) (e .key) (e .key + 1)) → r .snapshot < e .position → e .position ≤ q → ⊥)
-    → NoMore (walkOf S (some (at q r))) (walkOf S (some r))
+    → NoMoreLooks (walkOf S (some (withSnapshot q r))) (walkOf S (some r))
 unfolding reach
 later-snapshot S r q le free = walk-le (r .snapshot) q (reach r) le (treeOf 32 0 (S .kept)) λ e m t.
     let x = of-hits (r .snapshot) (reach r) e t in

@@ -2,7 +2,7 @@
 -- Assumes nothing.
 use Prim.Native.Nat.{ℕ, _+_, _-_, _^_, _≤_, _<_}
 use native.Mathlib.Omega.{arith}
-use mathlib.Core.Path.{_≡_, sym}
+use mathlib.Core.Path.{_≡_, sym, subst}
 use mathlib.Core.Logic.{_⊎_, inl, inr}
 use mathlib.Core.Bool.{not}
 use mathlib.Core.List.{List, [], _∷_, List·Memᴰ as Mem, List·Memᴰ·head as here, List·Memᴰ·tail as there}
@@ -13,13 +13,14 @@ use Rattle.record.specs.Record.{Rec}
 use Rattle.record.specs.declared.point.Point.{Point}
 use Rattle.rules.specs.State.{Entry, State, fresh, lastPosition, Rising, end, Fits, Lawful}
 use Rattle.rules.specs.Footprint.{writesOf}
-use Rattle.rules.specs.Verdict.{Verdict, conflicts, storeAll, young, whole, count, apply, judge, formed, pointsOf, verdict, step, left, next}
-use Rattle.rules.specs.Log.{Log, WellFormed, after}
+use Rattle.rules.specs.Verdict.{Verdict, conflicts, storeAll, young, whole, drops, apply, count, refusalOr, judge, formed, pointsOf, verdict, step, left, next}
+use Rattle.rules.specs.Log.{Log, ValidIf, WellFormed, after}
 use Rattle.rules.proofs.Tests.{if-ind, no-lt}
 use Rattle.rules.proofs.Stored.{writes-at, apply-mem}
 use Rattle.rules.proofs.Sorted.{keep-rising, storeAll-rising}
 use Rattle.rules.specs.EntryFits.{EntryFits}
-use Rattle.rules.proofs.Written.{ValidIf, record-sized}
+use Rattle.rules.proofs.Written.{record-sized}
+use Rattle.rules.proofs.Counted.{count-stored, drops-whole}
 
 -- "A new pool has p = 0 and no keys"
 pub lawful-fresh : {N Z : ℕ} → (1 ≤ N) × (N ≤ 65536) → (1 ≤ Z) × (Z ≤ 4096) → Lawful (fresh N Z)
@@ -34,21 +35,24 @@ lawful-fresh {N} {Z} a b = record {
 }
 
 -- what is left of a commit that found room is within the limit
-apply-few : (S : State) (ps : List Point) → T (not (ltb (S .N) (count S ps))) → length (apply S ps) ≤ S .N
+apply-few : (S : State) (ps : List Point) → ((e : Entry) → Mem e (writesOf (S .p + 1) ps) → EntryFits e) → Rising (2 ^ 32) 0 (S .kept)
+    → T (not (ltb (S .N) (count S ps))) → length (apply S ps) ≤ S .N
 unfolding apply
-apply-few S ps t = if-ind (λ (es : List Entry). length es ≤ S .N) (ltb (S .N) (length (whole S ps))) (λ _. nltb→le (S .N) (count S ps) t) (λ u. nltb→le (S .N) (length (whole S ps)) u)
+apply-few S ps k r t = rw (drops-whole S ps r k) (if-ind (λ (es : List Entry). length es ≤ S .N) (ltb (S .N) (length (whole S ps)))
+    (λ _. omega (arith, nltb→le (S .N) (count S ps) t, count-stored S ps r k)) (λ u. nltb→le (S .N) (length (whole S ps)) u))
 
 -- its keys rise
 apply-rising : (S : State) (ps : List Point) → ((e : Entry) → Mem e (writesOf (S .p + 1) ps) → EntryFits e) → Rising (2 ^ 32) 0 (S .kept) → Rising (2 ^ 32) 0 (apply S ps)
 unfolding apply
-apply-rising S ps k r = if-ind (λ (es : List Entry). Rising (2 ^ 32) 0 es) (ltb (S .N) (length (whole S ps)))
+apply-rising S ps k r = if-ind (λ (es : List Entry). Rising (2 ^ 32) 0 es) (drops S ps)
     (λ _. storeAll-rising (writesOf (S .p + 1) ps) (λ e m. k e m .0) (keep-rising (young (S .Z) (S .p + 1)) r))
     (λ _. storeAll-rising (writesOf (S .p + 1) ps) (λ e m. k e m .0) r)
 
--- "An empty record that passes commits and stores nothing"; so does one that only reads
+-- R28: a record that writes nothing stores nothing
 pub reads-store-nothing : {S : State} (ps : List Point) → Lawful S → writesOf (S .p + 1) ps ≡ [] → apply S ps ≡ S .kept
 unfolding apply storeAll
-reads-store-nothing {S} ps l e = rw (e, no-lt {a = S .N} {b = length (S .kept)} (l .few))
+reads-store-nothing {S} ps l e =
+    rw (drops-whole S ps (l .rising) (λ x m. elim (subst (λ (ws : List Entry). Mem x ws) e m) [ ]), e, no-lt {a = S .N} {b = length (S .kept)} (l .few))
 
 -- one position on, with nothing written
 lawful-on : {S : State} → Lawful S → S .p < lastPosition → Lawful (step S (S .kept))
@@ -69,7 +73,7 @@ lawful-commit {S} ps k l p room = record {
   limit-N = l .limit-N;
   limit-Z = l .limit-Z;
   last = omega arith;
-  few = apply-few S ps room;
+  few = apply-few S ps k (l .rising) room;
   rising = apply-rising S ps k (l .rising);
   positions = λ e m. at-most e (apply-mem S ps m);
   payloads = λ e m. fit e (apply-mem S ps m);
@@ -85,7 +89,7 @@ lawful-commit {S} ps k l p room = record {
 
 -- after any verdict but 6
 lawful-formed : {S : State} → Lawful S → S .p < lastPosition → (m : Option Rec) → ValidIf m → Lawful (left S (pointsOf m) (formed S m))
-unfolding judge
+unfolding judge refusalOr
 lawful-formed l p none v = lawful-on l p
 lawful-formed {S} l p (some r) v =
     if-ind G (ltb (S .p) (r .snapshot)) (λ _. lawful-on l p) (λ _.

@@ -25,6 +25,5 @@ pub mod Chain
 pub mod Refreshing
 pub mod Bits
 pub mod Finding
-pub mod NewKeys
 pub mod TreeCommit
 pub mod Fork

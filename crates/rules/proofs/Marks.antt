@@ -89,18 +89,18 @@ abbrev highIn : Scan → ℕ
 highIn c = c .high
 
 -- a record's marks: the keys of its points, and both ends of its scans
-pub ends : Rec → List ℕ
-ends r = map keyOf (r .points) ++ (map lowIn (r .scans) ++ map highIn (r .scans))
+pub marksOf : Rec → List ℕ
+marksOf r = map keyOf (r .points) ++ (map lowIn (r .scans) ++ map highIn (r .scans))
 
 -- points and twice the scans
-pub ends-length : (r : Rec) → length (ends r) ≡ length (r .points) + 2 * length (r .scans)
-unfolding ends
-ends-length r = simp (length-append, length-map) (omega arith)
+pub marks-length : (r : Rec) → length (marksOf r) ≡ length (r .points) + 2 * length (r .scans)
+unfolding marksOf
+marks-length r = simp (length-append, length-map) (omega arith)
 
 -- they are marks of what the record names or scans
-pub ends-marked : (r : Rec) → ((c : Scan) → Mem c (r .scans) → c .low ≤ c .high) → Marked (reach r) (ends r)
-unfolding reach ends
-ends-marked r ok c m = ⊎-elim
+pub marks-marked : (r : Rec) → ((c : Scan) → Mem c (r .scans) → c .low ≤ c .high) → Marked (reach r) (marksOf r)
+unfolding reach marksOf
+marks-marked r ok c m = ⊎-elim
     (λ (a : Mem c (map named (r .points))). let x = of-map named (r .points) a in
     let low = ap lowIn (x .2) in let high = ap highIn (x .2) in
     (omega arith, rw low (in-left (lows ++ highs) (mem-map keyOf (x .1))), rw high (in-left (lows ++ highs) (mem-map keyOf (x .1)))))

@@ -10,18 +10,18 @@ use lib.Dec.{T, ltb, leb, nltb→le, nleb→lt, T-not, not-T}
 use Rattle.record.specs.Record.{Rec}
 use Rattle.rules.specs.State.{State, fresh, lastPosition}
 use Rattle.rules.specs.Footprint.{reach}
-use Rattle.rules.specs.Verdict.{Verdict, committed, verdictAnswer, conflicts, count, judge, formed, verdict}
+use Rattle.rules.specs.Verdict.{Verdict, committed, verdictAnswer, conflicts, count, refusalOr, judge, formed, verdict}
 use Rattle.rules.specs.Log.{Log, after, commits}
 use Rattle.rules.specs.Demands.{Beaten, Passes}
 use Rattle.rules.proofs.Tests.{if-ind, is-false, no-lt}
 use Rattle.rules.proofs.Reach.{meets-reaches, reaches-meets}
 use Rattle.rules.proofs.Positions.{after-N, after-Z}
 use Rattle.rules.proofs.RowOne.{of-written, written-of, row-one}
-use Rattle.rules.proofs.Near.{room, verdict-near}
+use Rattle.rules.proofs.Near.{verdict-near}
 
 -- two answers with different numbers differ
-numbers : {a b : Verdict} → a ≡ b → verdictAnswer a .number ≡ verdictAnswer b .number
-numbers e = ap (λ (x : Verdict). verdictAnswer x .number) e
+same-number : {a b : Verdict} → a ≡ b → verdictAnswer a .number ≡ verdictAnswer b .number
+same-number e = ap (λ (x : Verdict). verdictAnswer x .number) e
 
 module _ (N Z : ℕ) (log : Log) where
   -- the state where the record stands
@@ -29,7 +29,7 @@ module _ (N Z : ℕ) (log : Log) where
   place = after (fresh N Z) log
 
   -- row 1 in words: a kept key conflicts exactly if a committed record of the log beat this one
-  pub beaten : (r : Rec) → r .snapshot ≤ place .p → place .p - r .snapshot ≤ Z → T (conflicts place r) ↔ Beaten N Z log r
+  pub beaten : (r : Rec) → r .snapshot ≤ after (fresh N Z) log .p → after (fresh N Z) log .p - r .snapshot ≤ Z → T (conflicts (after (fresh N Z) log) r) ↔ Beaten N Z log r
   beaten r a b = (
     λ t. let x = of-written (r .snapshot) (place .p) (reach r) (commits (fresh N Z) log) (rw (row-one N Z log r a b) at t) in
         (x .0, x .1, x .2, x .3, meets-reaches r (x .0 .key) (x .4)),
@@ -38,12 +38,12 @@ module _ (N Z : ℕ) (log : Log) where
 
   -- the checks from row 5 on
   judged : (r : Rec) → place .p < lastPosition → judge place r ≡ committed → Passes N Z log (some r)
-  unfolding judge
+  unfolding judge refusalOr
   judged r p =
-      if-ind G (ltb (place .p) (r .snapshot)) (λ _ e. absurd (omega (arith, numbers e))) (λ a.
-      if-ind G (ltb (place .Z) (place .p - r .snapshot)) (λ _ e. absurd (omega (arith, numbers e))) (λ b.
-      if-ind G (conflicts place r) (λ _ e. absurd (omega (arith, numbers e))) (λ c.
-      if-ind G (ltb (place .N) (count place (r .points))) (λ _ e. absurd (omega (arith, numbers e))) (λ d _. pass a b c d))))
+      if-ind G (ltb (place .p) (r .snapshot)) (λ _ e. absurd (omega (arith, same-number e))) (λ a.
+      if-ind G (ltb (place .Z) (place .p - r .snapshot)) (λ _ e. absurd (omega (arith, same-number e))) (λ b.
+      if-ind G (conflicts place r) (λ _ e. absurd (omega (arith, same-number e))) (λ c.
+      if-ind G (ltb (place .N) (count place (r .points))) (λ _ e. absurd (omega (arith, same-number e))) (λ d _. pass a b c d))))
     where
       G : Verdict → Type 0
       G a = a ≡ committed → Passes N Z log (some r)
@@ -64,18 +64,17 @@ module _ (N Z : ℕ) (log : Log) where
 
   -- with row 4 before them
   formed-passes : (m : Option Rec) → place .p < lastPosition → formed place m ≡ committed → Passes N Z log m
-  formed-passes none p e = absurd (omega (arith, numbers e))
+  formed-passes none p e = absurd (omega (arith, same-number e))
   formed-passes (some r) p e = judged r p e
 
   -- with row 6 before them: what commits passes
   passes : (m : Option Rec) → verdict place m ≡ committed → Passes N Z log m
   unfolding verdict
   passes m = if-ind (λ (a : Verdict). a ≡ committed → Passes N Z log m) (leb lastPosition (place .p))
-      (λ _ e. absurd (omega (arith, numbers e))) (λ t. formed-passes m (nleb→lt lastPosition (place .p) t))
+      (λ _ e. absurd (omega (arith, same-number e))) (λ t. formed-passes m (nleb→lt lastPosition (place .p) t))
 
   -- what passes commits
   passed : {m : Option Rec} → Passes N Z log m → verdict place m ≡ committed
-  unfolding room
   passed {m} w = ap (verdict place) (w .well-formed)
       ∙ verdict-near place (w .r) (w .not-ahead) (omega (arith, w .not-ahead, w .not-too-old, after-Z (fresh N Z) log)) (w .position-left)
       ∙ rw (
@@ -84,5 +83,5 @@ module _ (N Z : ℕ) (log : Log) where
       )
 
   -- over a log from a fresh pool
-  pub commits-exactly : (m : Option Rec) → (verdict place m ≡ committed) ↔ Passes N Z log m
+  pub commits-exactly : (m : Option Rec) → (verdict (after (fresh N Z) log) m ≡ committed) ↔ Passes N Z log m
   commits-exactly m = (passes m, passed)

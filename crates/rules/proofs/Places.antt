@@ -17,11 +17,11 @@ use Rattle.rules.specs.Footprint.{reach}
 use Rattle.rules.specs.Verdict.{hits, conflicts}
 use Rattle.rules.specs.Log.{Log, after, stateAt, commits}
 use Rattle.rules.specs.Tree.{treeOf, walkOf}
-use Rattle.rules.specs.Refresh.{at}
+use Rattle.rules.specs.Refresh.{withSnapshot}
 use Rattle.rules.proofs.Tests.{same, any-of, of-any}
 use Rattle.rules.proofs.Reach.{hits-of, of-hits}
 use Rattle.rules.proofs.Positions.{after-p, after-Z, after-append}
-use Rattle.rules.proofs.RowOne.{Holds, holds-fresh, holds-after}
+use Rattle.rules.proofs.RowOne.{HoldsWrites, holds-fresh, holds-after}
 use Rattle.rules.proofs.Later.{conflict-stays, hits-rise}
 use Rattle.rules.proofs.LaterSearch.{walk-le, tree-mem}
 use Rattle.rules.proofs.Near.{reach-at}
@@ -40,7 +40,7 @@ module _ (N Z : ℕ) (log : Log) (p : ℕ) (fits : p ≤ length log) (positions 
   place-Z q = after-Z (fresh N Z) (take q log)
 
   -- it holds what was committed
-  place-holds : (q : ℕ) → Holds (St q) ([] ++ commits (fresh N Z) (take q log))
+  place-holds : (q : ℕ) → HoldsWrites (St q) ([] ++ commits (fresh N Z) (take q log))
   place-holds q = holds-after (holds-fresh N Z) (take q log)
 
   -- the later place is reached from the first by the records between
@@ -62,9 +62,9 @@ module _ (N Z : ℕ) (log : Log) (p : ℕ) (fits : p ≤ length log) (positions 
     near-q = omega (arith, ap (λ (X : State). X .p) (place-later up), place-p top, place-Z q)
 
     -- a conflict stays one
-    pub stays : T (conflicts (St q) r) → T (conflicts (St q′) r)
+    pub stays-conflict : T (conflicts (St q) r) → T (conflicts (St q′) r)
     unfolding ms
-    stays t = subst (λ (X : State). T (conflicts X r)) (place-later up) (conflict-stays (place-holds q) ms (r .snapshot) (reach r) low-q near-q t)
+    stays-conflict t = subst (λ (X : State). T (conflicts X r)) (place-later up) (conflict-stays (place-holds q) ms (r .snapshot) (reach r) low-q near-q t)
 
     -- with none at q, what is hit later on was written after q
     rises : T (not (conflicts (St q) r)) → (e : Entry) → Mem e (St q′ .kept) → T (hits (r .snapshot) (reach r) e) → T (hits q (reach r) e)
@@ -73,7 +73,7 @@ module _ (N Z : ℕ) (log : Log) (p : ℕ) (fits : p ≤ length log) (positions 
         (hits-rise (place-holds q) ms (r .snapshot) (reach r) low-q near-q t e (subst (λ (X : State). Mem e (X .kept)) (sym (place-later up)) m) u)
 
     -- with none at q, the record with snapshot q conflicts later on exactly if the original does
-    pub same-conflicts : T (not (conflicts (St q) r)) → conflicts (St q′) (at q r) ≡ conflicts (St q′) r
+    pub same-conflicts : T (not (conflicts (St q) r)) → conflicts (St q′) (withSnapshot q r) ≡ conflicts (St q′) r
     same-conflicts t = rw (reach-at q r) (same (any (hits q (reach r)) (St q′ .kept)) (any (hits (r .snapshot) (reach r)) (St q′ .kept))
         (λ u. let x = of-any (hits q (reach r)) (St q′ .kept) u in
         let y = of-hits q (reach r) (x .0) (x .2) in
@@ -81,5 +81,5 @@ module _ (N Z : ℕ) (log : Log) (p : ℕ) (fits : p ≤ length log) (positions 
         (λ u. let x = of-any (hits (r .snapshot) (reach r)) (St q′ .kept) u in any-of (hits q (reach r)) (x .1) (rises t (x .0) (x .1) (x .2))))
 
     -- and looks no more often
-    pub walks : T (not (conflicts (St q) r)) → walkOf (St q′) (some (at q r)) .looks ≤ walkOf (St q′) (some r) .looks
+    pub walks : T (not (conflicts (St q) r)) → walkOf (St q′) (some (withSnapshot q r)) .looks ≤ walkOf (St q′) (some r) .looks
     walks t = rw (reach-at q r) (walk-le (r .snapshot) q (reach r) low (treeOf 32 0 (St q′ .kept)) (λ e m. rises t e (tree-mem 32 0 (St q′ .kept) m)) .looks-le)

@@ -11,7 +11,7 @@ use lib.ListN.{length}
 use Rattle.record.specs.Record.{Rec}
 use Rattle.record.specs.declared.point.Point.{Point}
 use Rattle.rules.specs.State.{Entry, State, lastPosition}
-use Rattle.rules.specs.Verdict.{Verdict, committed, conflict, tooOld, noRoom, malformed, ahead, positionsUsedUp, conflicts, count, judge, formed, pointsOf, verdict, left, next}
+use Rattle.rules.specs.Verdict.{Verdict, committed, conflict, tooOld, noRoom, malformed, ahead, positionsUsedUp, conflicts, count, refusalOr, judge, formed, pointsOf, verdict, left, next}
 use Rattle.rules.specs.Log.{Log, after, isWriter, wrote, commits}
 use Rattle.rules.proofs.Tests.{if-ind}
 use Rattle.rules.proofs.Stored.{writes-at}
@@ -20,7 +20,7 @@ use Rattle.rules.proofs.Stored.{writes-at}
 
 -- every answer but 6 uses up a position
 formed-p : (S : State) (m : Option Rec) → left S (pointsOf m) (formed S m) .p ≡ S .p + 1
-unfolding judge
+unfolding judge refusalOr
 formed-p S none = refl
 formed-p S (some r) =
     if-ind G (ltb (S .p) (r .snapshot)) (λ _. refl) (λ _.

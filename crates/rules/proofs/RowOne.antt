@@ -22,17 +22,17 @@ use Rattle.rules.proofs.Positions.{after-Z}
 use Rattle.rules.proofs.Stored.{Covered, writes-at, apply-mem, apply-covers, apply-self}
 
 -- S holds what the committed writes C leave behind
-pub record Holds (S : State) (C : List Entry) : Type 0 where
+pub record HoldsWrites (S : State) (C : List Entry) : Type 0 where
   pub bound : (c : Entry) → Mem c C → c .position ≤ S .p
   pub written : (e : Entry) → Mem e (S .kept) → Mem e C
   pub covered : (c : Entry) → Mem c C → S .p < c .position + S .Z → Covered (S .kept) (c .key) (c .position)
 
 -- at first nothing is written and nothing kept
-pub holds-fresh : (N Z : ℕ) → Holds (fresh N Z) []
+pub holds-fresh : (N Z : ℕ) → HoldsWrites (fresh N Z) []
 holds-fresh N Z = record { bound = λ c m. elim m [ ]; written = λ e m. m; covered = λ c m. elim m [ ] }
 
 -- a record that writes nothing
-holds-on : {S : State} {C : List Entry} → Holds S C → Holds (step S (S .kept)) (C ++ [])
+holds-on : {S : State} {C : List Entry} → HoldsWrites S C → HoldsWrites (step S (S .kept)) (C ++ [])
 holds-on {S} {C} h = rw append-nil record {
   bound = λ c m. omega (arith, h .bound c m);
   written = h .written;
@@ -40,7 +40,7 @@ holds-on {S} {C} h = rw append-nil record {
 }
 
 -- a record that commits
-holds-commit : {S : State} {C : List Entry} (ps : List Point) → Holds S C → Holds (step S (apply S ps)) (C ++ writesOf (S .p + 1) ps)
+holds-commit : {S : State} {C : List Entry} (ps : List Point) → HoldsWrites S C → HoldsWrites (step S (apply S ps)) (C ++ writesOf (S .p + 1) ps)
 holds-commit {S} {C} ps h = record { bound = λ c m. bound′ c (in-append C m); written = λ e m. written′ e (apply-mem S ps m); covered = λ c m. covered′ c (in-append C m) }
   where
     bound′ : (c : Entry) → Mem c C ⊎ Mem c (writesOf (S .p + 1) ps) → c .position ≤ S .p + 1
@@ -56,7 +56,7 @@ holds-commit {S} {C} ps h = record { bound = λ c m. bound′ c (in-append C m);
     covered′ c (inr m) l = apply-self S ps m
 
 -- a record with any verdict
-holds-left : {S : State} {C : List Entry} (ps : List Point) → Holds S C → (a : Verdict) → Holds (left S ps a) (C ++ wrote (S .p + 1) ps a)
+holds-left : {S : State} {C : List Entry} (ps : List Point) → HoldsWrites S C → (a : Verdict) → HoldsWrites (left S ps a) (C ++ wrote (S .p + 1) ps a)
 holds-left ps h committed = holds-commit ps h
 holds-left ps h conflict = holds-on h
 holds-left ps h tooOld = holds-on h
@@ -66,7 +66,7 @@ holds-left ps h ahead = holds-on h
 holds-left ps h positionsUsedUp = rw append-nil h
 
 -- a log
-pub holds-after : {S : State} {C : List Entry} → Holds S C → (ms : Log) → Holds (after S ms) (C ++ commits S ms)
+pub holds-after : {S : State} {C : List Entry} → HoldsWrites S C → (ms : Log) → HoldsWrites (after S ms) (C ++ commits S ms)
 unfolding after commits next
 holds-after h [] = rw append-nil h
 holds-after {S} {C} h (m ∷ ms) = rw append-assoc at (holds-after (holds-left (pointsOf m) h (verdict S m)) ms)
@@ -87,7 +87,7 @@ written-of s p f {C} {c} m a b t =
     any-of (between s p f) m (and-of (hits s f c) (leb (c .position) p) (hits-of s f c a t) (le→leb (c .position) p b))
 
 -- a state that holds the committed writes decides row 1 as the paper has it
-pub holds-agree : {S : State} {C : List Entry} → Holds S C → (s : ℕ) (f : List Scan) → S .p ≤ s + S .Z → any (hits s f) (S .kept) ≡ writtenIn s (S .p) f C
+pub holds-agree : {S : State} {C : List Entry} → HoldsWrites S C → (s : ℕ) (f : List Scan) → S .p ≤ s + S .Z → any (hits s f) (S .kept) ≡ writtenIn s (S .p) f C
 holds-agree {S} {C} h s f near = same (any (hits s f) (S .kept)) (writtenIn s (S .p) f C) to from
   where
     to : T (any (hits s f) (S .kept)) → T (writtenIn s (S .p) f C)

@@ -6,13 +6,12 @@ use mathlib.Core.Path.{_≡_, refl, sym, ap, _∙_}
 use mathlib.Core.Logic.{_⊎_, inl, inr}
 use mathlib.Core.List.{List, [], _∷_, List·Memᴰ as Mem, List·Memᴰ·head as here, List·Memᴰ·tail as there}
 use lib.Dec.{T, ltb, nltb→le, lt→ltb}
-use lib.ListN.{length}
 use Rattle.record.specs.declared.point.Point.{Point}
 use Rattle.record.specs.declared.point.Point.the-variants.{Read, Put, Delete}
 use Rattle.rules.specs.Lists.{keep}
 use Rattle.rules.specs.State.{Entry, State}
 use Rattle.rules.specs.Footprint.{writesOf}
-use Rattle.rules.specs.Verdict.{store, storeAll, young, whole, apply}
+use Rattle.rules.specs.Verdict.{store, storeAll, young, drops, apply}
 use Rattle.rules.proofs.Tests.{if-ind, or-right, keep-mem, mem-keep}
 
 -- WHAT IS STORED
@@ -114,7 +113,7 @@ module _ (S : State) (ps : List Point) where
   -- what is kept after a commit was written or kept before
   pub apply-mem : {x : Entry} → Mem x (apply S ps) → Mem x (writesOf (S .p + 1) ps) ⊎ Mem x (S .kept)
   unfolding apply
-  apply-mem {x} = if-ind (λ l. Mem x l → Mem x (writesOf (S .p + 1) ps) ⊎ Mem x (S .kept)) (ltb (S .N) (length (whole S ps)))
+  apply-mem {x} = if-ind (λ l. Mem x l → Mem x (writesOf (S .p + 1) ps) ⊎ Mem x (S .kept)) (drops S ps)
       (λ _ m. thin (storeAll-mem (writesOf (S .p + 1) ps) (keep (young (S .Z) (S .p + 1)) (S .kept)) m))
       (λ _ m. storeAll-mem (writesOf (S .p + 1) ps) (S .kept) m)
     where
@@ -129,7 +128,7 @@ module _ (S : State) (ps : List Point) where
   -- what is not old at p + 1 is still covered
   pub apply-covers : {k w : ℕ} → w ≤ S .p + 1 → S .p + 1 < w + S .Z → Covered (S .kept) k w → Covered (apply S ps) k w
   unfolding apply
-  apply-covers {k} {w} h l c = if-ind (λ es. Covered es k w) (ltb (S .N) (length (whole S ps)))
+  apply-covers {k} {w} h l c = if-ind (λ es. Covered es k w) (drops S ps)
       (λ _. storeAll-covers (writesOf (S .p + 1) ps) _ (at-v h)
       (c .0, mem-keep (young (S .Z) (S .p + 1)) (S .kept) (c .1) (young-in-zone (S .Z) (S .p + 1) (c .0) (omega (arith, c .3))), c .2, c .3))
       (λ _. storeAll-covers (writesOf (S .p + 1) ps) _ (at-v h) c)
@@ -137,6 +136,6 @@ module _ (S : State) (ps : List Point) where
   -- what was written is covered
   pub apply-self : {x : Entry} → Mem x (writesOf (S .p + 1) ps) → Covered (apply S ps) (x .key) (x .position)
   unfolding apply
-  apply-self {x} m = if-ind (λ es. Covered es (x .key) (x .position)) (ltb (S .N) (length (whole S ps)))
+  apply-self {x} m = if-ind (λ es. Covered es (x .key) (x .position)) (drops S ps)
       (λ _. storeAll-self (writesOf (S .p + 1) ps) _ m (at-v (omega (arith, writes-at (S .p + 1) ps m))))
       (λ _. storeAll-self (writesOf (S .p + 1) ps) _ m (at-v (omega (arith, writes-at (S .p + 1) ps m))))

@@ -2,16 +2,17 @@
 -- Assumes nothing.
 use Prim.Native.Nat.{ℕ, _+_, _^_, _≤_}
 use native.Mathlib.Omega.{arith}
-use mathlib.Core.Path.{_≡_, refl, sym, subst}
+use mathlib.Core.Path.{refl, sym, subst}
 use mathlib.Core.List.{List, [], _∷_, List·Memᴰ as Mem, List·Memᴰ·head as here, List·Memᴰ·tail as there}
 use mathlib.Core.Option.{Option, none, some}
-use Rattle.record.specs.Record.{Rec, Valid, PointsRise}
+use Rattle.record.specs.Record.{Rec, PointsRise}
 use Rattle.record.specs.declared.point.Point.{Point}
 use Rattle.record.specs.declared.point.Point.the-variants.{Read, Put, Delete}
 use Rattle.rules.specs.EntryFits.{EntryFits}
 use Rattle.rules.specs.State.{Entry, Rising, end, link}
 use Rattle.rules.specs.Footprint.{writesOf}
 use Rattle.rules.specs.Verdict.{pointsOf}
+use Rattle.rules.specs.Log.{ValidIf}
 use Rattle.rules.proofs.Sorted.{rising-lower}
 
 -- what is written fits its bytes
@@ -29,10 +30,6 @@ writes-rising v low [] l h = end l
 writes-rising v low (Read k ∷ ps) l h = rising-lower (omega (arith, h .0)) (writes-rising v (k + 1) ps (omega (arith, h .1)) (h .3))
 writes-rising v low (Put k x ∷ ps) l h = link (h .0) (writes-rising v (k + 1) ps (omega (arith, h .1)) (h .3))
 writes-rising v low (Delete k ∷ ps) l h = link (h .0) (writes-rising v (k + 1) ps (omega (arith, h .1)) (h .3))
-
--- none of it, if there is no record
-abbrev pub ValidIf : Option Rec → Type 0
-ValidIf m = (r : Rec) → m ≡ some r → Valid r
 
 -- what a record writes fits its bytes
 pub record-sized : (v : ℕ) (m : Option Rec) → ValidIf m → (e : Entry) → Mem e (writesOf v (pointsOf m)) → EntryFits e

@@ -1,8 +1,8 @@
--- Three words on lists that the rules are said with.
+-- Words on lists that the rules are said with.
 -- Assumes nothing: these are definitions.
 use Prim.Native.Nat.{ℕ}
-use mathlib.Core.Bool.{Bool, true, false, _||_}
-use mathlib.Core.List.{List, [], _∷_}
+use mathlib.Core.Bool.{Bool, false, _||_}
+use mathlib.Core.List.{List, [], _∷_, List·Memᴰ as Mem}
 use lib.Dec.{eqb}
 use Rattle.words.specs.Choice.{if_then_else_}
 
@@ -20,3 +20,8 @@ keep f (x ∷ xs) = if f x then x ∷ keep f xs else keep f xs
 abbrev pub distinct : List ℕ → List ℕ
 distinct [] = []
 distinct (k ∷ ks) = if any (eqb k) ks then distinct ks else k ∷ distinct ks
+
+-- none of the numbers stands twice
+pub data NoneTwice : List ℕ → Type 0 where
+  nil : NoneTwice []
+  cons : {k : ℕ} {ks : List ℕ} → (Mem k ks → ⊥) → NoneTwice ks → NoneTwice (k ∷ ks)

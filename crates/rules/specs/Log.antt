@@ -1,6 +1,7 @@
 -- A log of records, melded one after the other, and who wrote what in it.
 -- Assumes nothing: these are definitions.
 use Prim.Native.Nat.{ℕ, _+_}
+use mathlib.Core.Path.{_≡_}
 use mathlib.Core.Bool.{Bool, true, false, _&&_}
 use mathlib.Core.List.{List, [], _∷_, _++_, List·Memᴰ as Mem}
 use mathlib.Core.Option.{Option, some}
@@ -19,7 +20,11 @@ use Rattle.rules.specs.Verdict.{Verdict, committed, conflict, tooOld, no
 abbrev pub Log : Type 0
 Log = List (Option Rec)
 
--- what parses keeps the rules of a record
+-- a record that parses keeps the rules of a record
+abbrev pub ValidIf : Option Rec → Type 0
+ValidIf m = (r : Rec) → m ≡ some r → Valid r
+
+-- so in a whole log
 abbrev pub WellFormed : Log → Type 0
 WellFormed log = (r : Rec) → Mem (some r) log → Valid r
 

@@ -1,6 +1,7 @@
 -- Document 01, "The tree" and "Looks".
 -- Assumes nothing: these are definitions.
-use Prim.Native.Nat.{ℕ, zero, suc, _+_, _^_, max, min}
+use Prim.Native.Nat.{ℕ, zero, suc, _+_, _^_, _≤_, max, min}
+use mathlib.Core.Path.{_≡_}
 use mathlib.Core.Bool.{Bool, true, false, _&&_, _||_}
 use mathlib.Core.List.{List, [], _∷_, _++_}
 use mathlib.Core.Option.{Option, none, some}
@@ -115,16 +116,21 @@ abbrev pub walkOf : State → Option Rec → Walked
 walkOf S none = record { found = false; looks = 0 }
 walkOf S (some r) = walk (r .snapshot) (reach r) (treeOf 32 0 (S .kept))
 
--- "An empty tree takes 0; so do answers 2, 4, 5, 6, 7"
-abbrev pub looksFor : State → Option Rec → Verdict → ℕ
-looksFor S m committed = walkOf S m .looks
-looksFor S m conflict = walkOf S m .looks
-looksFor S m tooOld = 0
-looksFor S m noRoom = walkOf S m .looks
-looksFor S m malformed = 0
-looksFor S m ahead = 0
-looksFor S m positionsUsedUp = 0
+-- R36: the looks of an answer, where the search takes n
+abbrev pub looksFor : ℕ → Verdict → ℕ
+looksFor n committed = n
+looksFor n conflict = n
+looksFor n tooOld = 0
+looksFor n noRoom = n
+looksFor n malformed = 0
+looksFor n ahead = 0
+looksFor n positionsUsedUp = 0
 
 -- the looks that a meld reports
 unfoldable pub looksOf : State → Option Rec → ℕ
-looksOf S m = looksFor S m (verdict S m)
+looksOf S m = looksFor (walkOf S m .looks) (verdict S m)
+
+-- the first search finds what the second finds, in no more looks
+pub record NoMoreLooks (w′ w : Walked) : Type 0 where
+  pub finds : w′ .found ≡ w .found
+  pub looks-le : w′ .looks ≤ w .looks

@@ -1,8 +1,8 @@
--- Document 01, "The verdict": the answers 6, 4, 5, 2, 1, 3, 0 in this order, and what is left behind. (7 to 10 concern bytes.)
+-- The answer to a record and what it leaves behind (R23 to R29): 6, 4, 5, 2, 1, 3, 0 in this order. (7 to 10 concern bytes.)
 -- Assumes nothing: these are definitions.
 use Prim.Native.Nat.{ℕ, _+_, _-_}
 use mathlib.Core.Bool.{Bool, _&&_, _||_}
-use mathlib.Core.List.{List, [], _∷_}
+use mathlib.Core.List.{List, [], _∷_, _++_, map}
 use mathlib.Core.Option.{Option, none, some}
 use lib.Dec.{ltb, leb}
 use lib.ListN.{length}
@@ -12,8 +12,8 @@ use Rattle.record.specs.declared.answer.Answer.{Answer}
 use Rattle.record.specs.declared.point.Point.{Point}
 use Rattle.record.specs.declared.point.Scan.{Scan}
 use Rattle.words.specs.Choice.{if_then_else_}
-use Rattle.rules.specs.Lists.{any, keep}
-use Rattle.rules.specs.State.{Entry, State, isLive, lastPosition}
+use Rattle.rules.specs.Lists.{any, keep, distinct}
+use Rattle.rules.specs.State.{Entry, State, keyIn, isLive, lastPosition}
 use Rattle.rules.specs.Footprint.{reach, meets, writesOf}
 
 -- what a meld answers
@@ -36,15 +36,27 @@ verdictAnswer malformed = Names.malformed
 verdictAnswer ahead = Names.ahead
 verdictAnswer positionsUsedUp = Names.positionsUsedUp
 
--- ROW 1
+-- AHEAD, TOO OLD, CONFLICT
 
--- an entry that is named or scanned and "has a write position above s"
+-- an entry whose key is named or scanned and which was written above s
 unfoldable pub hits : ℕ → List Scan → Entry → Bool
 hits s f e = ltb s (e .position) && meets f (e .key) (e .key + 1)
 
--- conflict, for any state: "a kept key named or scanned has a write position above s"
+-- R24, for a snapshot s and what is named or scanned: some kept key of it was last written above s
+abbrev pub conflictsAt : State → ℕ → List Scan → Bool
+conflictsAt S s f = any (hits s f) (S .kept)
+
+-- R24, for a record
 abbrev pub conflicts : State → Rec → Bool
-conflicts S r = any (hits (r .snapshot) (reach r)) (S .kept)
+conflicts S r = conflictsAt S (r .snapshot) (reach r)
+
+-- R23's rows 5, 2 and 1, for a snapshot s and what is named or scanned: the first that applies, and where none does, this other answer
+unfoldable pub refusalOr : State → ℕ → List Scan → Verdict → Verdict
+refusalOr S s f other =
+    if ltb (S .p) s then ahead else
+    if ltb (S .Z) (S .p - s) then tooOld else
+    if conflictsAt S s f then conflict else
+    other
 
 -- WHAT A COMMIT LEAVES
 
@@ -65,32 +77,45 @@ storeAll (e ∷ es) kept = storeAll es (store e kept)
 unfoldable pub young : ℕ → ℕ → Entry → Bool
 young Z v e = isLive (e .payload) || ltb v (e .position + Z)
 
--- "Then puts and deletes are stored at v": in all that is kept
+-- R28: each put and delete stored at v, in all that is kept
 abbrev pub whole : State → List Point → List Entry
 whole S ps = storeAll (writesOf (S .p + 1) ps) (S .kept)
 
--- and where the old tombstones "are dropped first"
+-- R28, where the old tombstones are dropped first
 abbrev pub lean : State → List Point → List Entry
 lean S ps = storeAll (writesOf (S .p + 1) ps) (keep (young (S .Z) (S .p + 1)) (S .kept))
 
--- row 3's count: "live keys, tombstones w with w + Z > v, and the keys this record writes", together
-abbrev pub count : State → List Point → ℕ
-count S ps = length (lean S ps)
+-- the keys that R27 takes: the kept ones and those that the record writes
+abbrev pub keptOrWritten : State → List Point → List ℕ
+keptOrWritten S ps = map keyIn (S .kept) ++ map keyIn (writesOf (S .p + 1) ps)
 
--- "if the kept keys and the keys written are together more than N, all tombstones w with w + Z ≤ v are dropped first; otherwise none is"
+-- R27: the old tombstones are dropped if these keys, each counted once, are more than N
+unfoldable pub drops : State → List Point → Bool
+drops S ps = ltb (S .N) (length (distinct (keptOrWritten S ps)))
+
+-- R27 and R28
 unfoldable pub apply : State → List Point → List Entry
-apply S ps = if ltb (S .N) (length (whole S ps)) then lean S ps else whole S ps
+apply S ps = if drops S ps then lean S ps else whole S ps
+
+-- NO ROOM
+
+-- the keys that R26 takes: the live ones, those with a tombstone w with w + Z > v, and those that the record writes
+abbrev pub counted : State → List Point → List ℕ
+counted S ps = map keyIn (keep (young (S .Z) (S .p + 1)) (S .kept)) ++ map keyIn (writesOf (S .p + 1) ps)
+
+-- how many they are, each counted once
+unfoldable pub count : State → List Point → ℕ
+count S ps = length (distinct (counted S ps))
+
+-- R23's rows 3 and 0: no room if they are more than N (R26)
+abbrev pub noRoomOrCommitted : State → List Point → Verdict
+noRoomOrCommitted S ps = if ltb (S .N) (count S ps) then noRoom else committed
 
 -- THE VERDICT
 
 -- rows 5, 2, 1, 3, 0
 unfoldable pub judge : State → Rec → Verdict
-judge S r =
-    if ltb (S .p) (r .snapshot) then ahead else
-    if ltb (S .Z) (S .p - r .snapshot) then tooOld else
-    if conflicts S r then conflict else
-    if ltb (S .N) (count S (r .points)) then noRoom else
-    committed
+judge S r = refusalOr S (r .snapshot) (reach r) (noRoomOrCommitted S (r .points))
 
 -- row 4 before them; none stands for bytes that are not well formed
 abbrev pub formed : State → Option Rec → Verdict
@@ -108,11 +133,11 @@ abbrev pub pointsOf : Option Rec → List Point
 pointsOf none = []
 pointsOf (some r) = r .points
 
--- p + 1, with these entries
+-- R29: p + 1, with these entries
 abbrev pub step : State → List Entry → State
 step S es = record { N = S .N; Z = S .Z; p = S .p + 1; kept = es }
 
--- the table's last column
+-- R23's last column
 abbrev pub left : State → List Point → Verdict → State
 left S ps committed = step S (apply S ps)
 left S ps conflict = step S (S .kept)

@@ -4,7 +4,7 @@ use Prim.Native.Nat.{_-_}
 use native.Mathlib.Omega.{arith}
 use lib.ListN.{length}
 use borrow.Author.Needs.{needs}
-use Rattle.commit.proofs.Turns.{Going, starts, passed-over, is-put, is-delete, has-room, moved-on, ends}
+use Rattle.commit.proofs.Turns.{Going, starts, passed-over, is-put, is-delete, has-room, moved-on, loop-ends}
 use Rattle.commit.proofs.apply.apply.Statement.{statement}
 use Rattle.commit.proofs.apply.apply.Tie as tie
 
@@ -69,7 +69,7 @@ same-length : tie.Need-same-length Inv-loop μ-loop
 same-length c = c .before .loop .inv .same
 
 returns : tie.Need-returns Inv-loop μ-loop
-returns c = ends _ _ _ _ _ _ (c .before .before .before .before .before .before .pre) (c .before .loop .inv) (c .loop-test .left)
+returns c = loop-ends _ _ _ _ _ _ (c .before .before .before .before .before .before .pre) (c .before .loop .inv) (c .loop-test .left)
 
 pub apply-spec : {M : Type 1} → statement M
 apply-spec =

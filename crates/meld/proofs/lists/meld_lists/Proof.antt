@@ -1,5 +1,5 @@
 -- `meld::meld_lists` meets its promise: one law for each return and each call (Verdicts.antt).
-use Rattle.meld.proofs.Verdicts.{is-fit, are-sorted, is-writable, stopped, asks-lean, asks-writes, no-room, wrote-lean, wrote}
+use Rattle.meld.proofs.Verdicts.{is-fit, are-sorted, is-writable, refusal-melds, asks-lean, asks-writes, no-room, lean-melds, whole-melds}
 use borrow.Author.Needs.{needs}
 use Rattle.meld.proofs.lists.meld_lists.Statement.{statement}
 use Rattle.meld.proofs.lists.meld_lists.Tie as tie
@@ -14,7 +14,7 @@ same-length : tie.Need-same-length
 same-length c = search needs
 
 returns : tie.Need-returns
-returns c = stopped _ _ _ _ _ _ _ (c .before .before .before .before .before .before .before .before .before .before .before .before .before .before .before .before .pre) _ (c .before .before .before .before .before .before .before .before .judge .ensures) _ (c .before .before .before .before .if1 .taken) (c .before .before .advance .ensures)
+returns c = refusal-melds _ _ _ _ _ _ _ (c .before .before .before .before .before .before .before .before .before .before .before .before .before .before .before .before .pre) _ (c .before .before .before .before .before .before .before .before .judge .ensures) _ (c .before .before .before .before .if1 .taken) (c .before .before .advance .ensures)
 
 room-for-requires : tie.Need-room-for-requires
 room-for-requires c κs = (is-fit _ _ _ _ _ _ _ (c .before .before .before .before .before .before .before .before .before .before .before .before .before .pre), is-writable _ _ _ _ _ _ _ (c .before .before .before .before .before .before .before .before .before .before .before .before .before .pre))
@@ -47,13 +47,13 @@ same-length-3 : tie.Need-same-length-3
 same-length-3 c = search needs
 
 returns-3 : tie.Need-returns-3
-returns-3 c = wrote-lean _ _ _ _ _ _ _ (c .before .before .before .before .before .before .before .before .before .before .before .before .before .before .before .before .before .before .before .before .pre) _ (c .before .before .before .before .before .before .before .before .before .before .before .before .judge .ensures) (c .before .before .before .before .before .before .before .before .if1 .left) _ (c .before .before .before .before .before .before .room-for .ensures) _ (c .before .before .before .before .enum-told2 .given .1) (c .before .before .commit-after-drop .ensures)
+returns-3 c = lean-melds _ _ _ _ _ _ _ (c .before .before .before .before .before .before .before .before .before .before .before .before .before .before .before .before .before .before .before .before .pre) _ (c .before .before .before .before .before .before .before .before .before .before .before .before .judge .ensures) (c .before .before .before .before .before .before .before .before .if1 .left) _ (c .before .before .before .before .before .before .room-for .ensures) _ (c .before .before .before .before .enum-told2 .given .1) (c .before .before .commit-after-drop .ensures)
 
 same-length-4 : tie.Need-same-length-4
 same-length-4 c = search needs
 
 returns-4 : tie.Need-returns-4
-returns-4 c = wrote _ _ _ _ _ _ _ (c .before .before .before .before .before .before .before .before .before .before .before .before .before .before .before .before .before .before .before .before .pre) _ (c .before .before .before .before .before .before .before .before .before .before .before .before .judge .ensures) (c .before .before .before .before .before .before .before .before .if1 .left) _ (c .before .before .before .before .before .before .room-for .ensures) _ (c .before .before .before .before .enum-told3 .given .1) (c .before .before .commit-writes .ensures)
+returns-4 c = whole-melds _ _ _ _ _ _ _ (c .before .before .before .before .before .before .before .before .before .before .before .before .before .before .before .before .before .before .before .before .pre) _ (c .before .before .before .before .before .before .before .before .before .before .before .before .judge .ensures) (c .before .before .before .before .before .before .before .before .if1 .left) _ (c .before .before .before .before .before .before .room-for .ensures) _ (c .before .before .before .before .enum-told3 .given .1) (c .before .before .commit-writes .ensures)
 
 pub meld-lists-spec : {M : Type 1} → statement M
 meld-lists-spec =

@@ -2,7 +2,7 @@
 use Prim.Native.Nat.{_-_}
 use lib.ListN.{length}
 use borrow.Author.Needs.{needs}
-use Rattle.room.proofs.Turns.{Going, starts, goes-on, fits-absent, fits-revived, ends}
+use Rattle.room.proofs.Turns.{Going, starts, goes-on, fits-absent, fits-revived, loop-ends}
 use Rattle.room.proofs.tally.tally_points.Statement.{statement}
 use Rattle.room.proofs.tally.tally_points.Tie as tie
 
@@ -43,7 +43,7 @@ loop-again : tie.Need-loop-again Inv-loop μ-loop
 loop-again c = search (goes-on, needs)
 
 returns : tie.Need-returns Inv-loop μ-loop
-returns c = search (ends, needs)
+returns c = search (loop-ends, needs)
 
 pub tally-points-spec : {M : Type 1} → statement M
 tally-points-spec =
