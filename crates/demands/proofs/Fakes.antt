@@ -25,6 +25,7 @@ use Rattle.meld.specs.declared.kept.Lookup.the-variants.{Unfit, Absent, Found}
 use Rattle.meld.specs.declared.melding.Melded.{Melded}
 use Rattle.meld.specs.Lookups.{lookupOf}
 use Rattle.meld.specs.Melds.{meldedOf}
+use Rattle.meld.proofs.Lookups.{lookup-case}
 use Rattle.refresh.specs.Refreshed.{RefreshOutcome, refreshOutcome, leftBy, refreshedOf}
 use Rattle.demands.specs.Runs.{Means}
 use Rattle.demands.specs.Fakes.{Library, AlwaysRefuses, AlwaysCommits, StoresNothing, OnlyFirst, Copies, AlwaysAhead, InventsLooks}
@@ -97,7 +98,7 @@ module _ (L : Library) where
 
   -- what a lookup sees
   sees : (m : List ℕ) (S : State) (k : ℕ) → Means m S → L .lookup m k ≡ lookupOf (lookup k S)
-  sees m S k means = L .lookup-keeps m k (means .image .bytes) .fit (means .arrangement) (means .image) ∙ ap (λ (T : State). lookupOf (lookup k T)) (means .state)
+  sees m S k means = lookup-case m k (L .lookup m k) (L .lookup-keeps m k (means .image .bytes)) (means .arrangement) (means .image) ∙ ap (λ (T : State). lookupOf (lookup k T)) (means .state)
 
   -- THE FAKES
 
