@@ -22,15 +22,9 @@ use Rattle.abi.specs.declared.numbers.LookupNumbers.{LookupNumbers}
 use Rattle.abi.specs.declared.numbers.CutNumbers.{CutNumbers}
 use Rattle.abi.specs.Numbers as Numbers
 use Rattle.abi.specs.Numbers.{answer}
-use Rattle.abi.specs.Told.{LooksUpAs, inRefreshed, InForceAs}
+use Rattle.abi.specs.Told.{LooksUpAs, LookupTells, CutTells, inRefreshed, InForceAs}
 
 -- A LOOKUP
-
--- 7 says that the pool is not fit; 0 with position 0 that the key is absent; 0 with a position that it was found, with this payload
-pub record LookupTells (m : List ℕ) (k n x w : ℕ) : Type 0 where
-  pub unfit : n ≡ 7 → Fit m → ⊥
-  pub absent-is : n ≡ 0 → w ≡ 0 → (A : Arrangement) → Image m A → lookup k (stateOf A) ≡ absent
-  pub found-is : n ≡ 0 → 1 ≤ w → (A : Arrangement) → Image m A → lookup k (stateOf A) ≡ found x w
 
 -- what is absent is not found
 absent-not-found : {P : Type 0} {x w : ℕ} → absent ≡ found x w → P
@@ -77,12 +71,6 @@ lookup-tells m k n x w h =
         cc
 
 -- A CUT
-
--- 10 says that the log is broken there; 0 with the same place that it ends there; 0 with a later place that a record stands there
-pub record CutTells (log : List ℕ) (place n next : ℕ) : Type 0 where
-  pub broken-is : n ≡ 10 → cutAt log place ≡ Broken
-  pub end-is : n ≡ 0 → next ≡ place → cutAt log place ≡ End
-  pub record-is : n ≡ 0 → place < next → cutAt log place ≡ Record next
 
 pub cut-tells : (log : List ℕ) (place n next : ℕ) → Numbers.found n next ≡ Numbers.ofCut (cutAt log place) place → CutTells log place n next
 cut-tells log place n next h = go (cutAt log place) refl h

@@ -7,13 +7,9 @@ use mathlib.Core.Bool.{Bool}
 use mathlib.Core.List.{List}
 use Rattle.words.specs.Word.{Bytes}
 use Rattle.record.specs.declared.answer.Answer.{Answer}
-use Rattle.record.specs.declared.reader.Reading.{Reading}
 use Rattle.record.specs.Parse.{parse, checkOf}
 use Rattle.record.specs.Reader as Reader
-use Rattle.record.proofs.Only.{check-only, read-only}
-use Rattle.writer.specs.declared.Written.{Written}
 use Rattle.writer.specs.Writer as Writer
-use Rattle.writer.proofs.Only.{write-only}
 use Rattle.log.specs.Log.{cutAt}
 use Rattle.pool.specs.Image.{Fit}
 use Rattle.fit.proofs.Decided.{fit-or-not}
@@ -68,7 +64,7 @@ only-in-force n o b r q offset size offset′ size′ h k = (h .slice ∙ sym (k
 
 -- `emuparasol_check`: one number
 pub only-check : (bytes : List ℕ) (r q : ℕ) → answer r ≡ checkOf (parse bytes) → answer q ≡ checkOf (parse bytes) → r ≡ q
-only-check bytes r q a b = ap (λ (c : Answer). c .number) (check-only bytes (answer r) (answer q) a b)
+only-check bytes r q a b = ap (λ (c : Answer). c .number) (a ∙ sym b)
 
 -- `emuparasol_read`: one number, snapshot and two counts, and one content of all five lists
 pub only-read : (bytes : List ℕ) (before : Reader.Lists) (r s points scans q s′ points′ scans′ : ℕ) (left kept : Reader.Lists)
@@ -76,12 +72,12 @@ pub only-read : (bytes : List ℕ) (before : Reader.Lists) (r s points scans q s
     → Reader.readOutcome (reading q s′ points′ scans′) kept ≡ Reader.readOf (parse bytes) before
     → (r ≡ q) × (s ≡ s′) × (points ≡ points′) × (scans ≡ scans′) × (left ≡ kept)
 only-read bytes before r s points scans q s′ points′ scans′ left kept a b =
-    let x = read-only bytes before (reading r s points scans) (reading q s′ points′ scans′) left kept a b in (
-      ap (λ (y : Reading). y .answer .number) (x .0),
-      ap (λ (y : Reading). y .snapshot) (x .0),
-      ap (λ (y : Reading). y .points) (x .0),
-      ap (λ (y : Reading). y .scans) (x .0),
-      x .1,
+    let same : Reader.readOutcome (reading r s points scans) left ≡ Reader.readOutcome (reading q s′ points′ scans′) kept = a ∙ sym b in (
+      ap (λ (o : Reader.ReadOutcome). o .reading .answer .number) same,
+      ap (λ (o : Reader.ReadOutcome). o .reading .snapshot) same,
+      ap (λ (o : Reader.ReadOutcome). o .reading .points) same,
+      ap (λ (o : Reader.ReadOutcome). o .reading .scans) same,
+      ap (λ (o : Reader.ReadOutcome). o .left) same,
     )
 
 -- `emuparasol_write`: one number and size, and one content of the output
@@ -90,8 +86,11 @@ pub only-write : (snapshot : ℕ) (l : Reader.Lists) (output : List ℕ) (r size
     → Writer.writeOutcome (written q size′) kept ≡ Writer.writeOf (Writer.recordOf snapshot l) output
     → (r ≡ q) × (size ≡ size′) × (left ≡ kept)
 only-write snapshot l output r size q size′ left kept a b =
-    let x = write-only snapshot l output (written r size) (written q size′) left kept a b in
-    (ap (λ (y : Written). y .answer .number) (x .0), ap (λ (y : Written). y .size) (x .0), x .1)
+    let same : Writer.writeOutcome (written r size) left ≡ Writer.writeOutcome (written q size′) kept = a ∙ sym b in (
+      ap (λ (o : Writer.WriteOutcome). o .written .answer .number) same,
+      ap (λ (o : Writer.WriteOutcome). o .written .size) same,
+      ap (λ (o : Writer.WriteOutcome). o .left) same,
+    )
 
 -- `emuparasol_cut`: one number, and one place afterwards
 pub only-cut : (log : List ℕ) (place r next q next′ : ℕ)

@@ -2,15 +2,15 @@
 -- Assumes nothing: these are definitions.
 use Prim.Native.Nat.{ℕ}
 use mathlib.Core.Option.{Option, none, some}
+use Rattle.words.specs.Choice.{valueOr}
 use Rattle.record.specs.declared.answer.Answer.{Answer}
 use Rattle.record.specs.declared.reader.Reading.{Reading}
 use Rattle.writer.specs.declared.Written.{Written}
 use Rattle.log.specs.declared.found.Cut.{Cut}
-use Rattle.log.specs.Log.{cutAnswer, placeAfter}
+use Rattle.log.specs.Log.{CutTold, cutTold}
 use Rattle.meld.specs.declared.kept.Lookup.{Lookup}
-use Rattle.meld.specs.declared.kept.Lookup.the-variants.{Unfit, Absent, Found}
 use Rattle.meld.specs.declared.melding.Melded.{Melded}
-use Rattle.meld.specs.Lookups.{lookupAnswer}
+use Rattle.meld.specs.Lookups.{LookupTold, lookupTold}
 use Rattle.abi.specs.declared.numbers.LookupNumbers.{LookupNumbers}
 use Rattle.abi.specs.declared.numbers.CutNumbers.{CutNumbers}
 
@@ -38,27 +38,23 @@ lookedUp n x w = record { number = n; payload = x; position = w }
 abbrev pub found : ℕ → ℕ → CutNumbers
 found n next = record { number = n; next = next }
 
--- the number of an enum's case: the paper's, or 0 where the paper gives the case none
+-- the number of what is told: the rules', or 0 where they have none
 abbrev pub numberIn : Option Answer → ℕ
 numberIn none = 0
 numberIn (some a) = a .number
 
--- the payload found, else 0
-abbrev pub payloadIn : Lookup → ℕ
-payloadIn Unfit = 0
-payloadIn Absent = 0
-payloadIn (Found x w) = x
+-- what a lookup tells, as numbers: the payload and the position are 0 where none is told
+abbrev pub lookupNumbers : LookupTold → LookupNumbers
+lookupNumbers t = lookedUp (numberIn (t .answer)) (valueOr 0 (t .payload)) (valueOr 0 (t .position))
 
--- the position found, else 0
-abbrev pub positionIn : Lookup → ℕ
-positionIn Unfit = 0
-positionIn Absent = 0
-positionIn (Found x w) = w
-
--- a lookup's answer as numbers: 7, 0 and 0 for an unfit pool; 0, 0 and 0 for an absent key; 0, the payload and the position for one that is found
+-- so 7, 0 and 0 for an unfit pool; 0, 0 and 0 for an absent key; 0, the payload and the position for one that is found
 abbrev pub ofLookup : Lookup → LookupNumbers
-ofLookup l = lookedUp (numberIn (lookupAnswer l)) (payloadIn l) (positionIn l)
+ofLookup l = lookupNumbers (lookupTold l)
 
--- what stands at a place as numbers: 10 and the place for a broken log; 0 and the place at the end; 0 and the place past a record
+-- what is told of a place, as numbers: the place stays where no record is handed out
+abbrev pub cutNumbers : CutTold → ℕ → CutNumbers
+cutNumbers t place = found (numberIn (t .answer)) (valueOr place (t .past))
+
+-- so 10 and the place for a broken log; 0 and the place at the end; 0 and the place past a record
 abbrev pub ofCut : Cut → ℕ → CutNumbers
-ofCut c place = found (numberIn (cutAnswer c)) (placeAfter c place)
+ofCut c place = cutNumbers (cutTold c) place

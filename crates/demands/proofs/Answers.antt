@@ -5,7 +5,7 @@
 use Prim.Native.Nat.{ℕ}
 use mathlib.Core.Path.{_≡_, sym, _∙_}
 use mathlib.Core.Bool.{Bool}
-use mathlib.Core.List.{List, map}
+use mathlib.Core.List.{List, [], _∷_, map}
 use denote.Ref.{RefT}
 use Rattle.words.specs.Word.{Bytes}
 use Rattle.record.specs.declared.answer.Answer.{Answer}
@@ -18,13 +18,13 @@ use Rattle.record.specs.Reader as Reader
 use Rattle.writer.specs.Writer.{recordOf, writeOf}
 use Rattle.writer.specs.Writer as Writer
 use Rattle.log.specs.declared.found.Cut.{Cut}
-use Rattle.log.specs.Log.{CutIs, HandedOut}
-use Rattle.log.proofs.Only.{SameSlice, only-cut, only-part}
+use Rattle.log.specs.Log.{CutIs, HandedOut, SameSlice}
+use Rattle.log.proofs.Only.{only-cut, only-part}
 use Rattle.log_reader.specs.declared.LogReader.{LogReader}
 use Rattle.log_reader.specs.declared.Step.{Step}
 use Rattle.log_reader.specs.declared.Move.{Move}
-use Rattle.log_reader.specs.LogReader.{Opened, PlaceIs, Stepped, Moved}
-use Rattle.log_reader.proofs.Only.{SameStep, only-new, only-step, only-step-at}
+use Rattle.log_reader.specs.LogReader.{Opened, PlaceIs, Stepped, SameStep, Moved}
+use Rattle.log_reader.proofs.Only.{only-new, only-step, only-step-at}
 use Rattle.pool.specs.Image.{Fit}
 use Rattle.fit.specs.Whole.{Decides}
 use Rattle.fit.proofs.Promises as Fitness
@@ -69,6 +69,10 @@ pub write-pairs-one : (snapshot : ℕ) (ks es xs : List ℕ) (cs : List Scan) (b
     → OneAnswer (λ (o : Writer.WriteOutcome). o ≡ writeOf (recordOf snapshot (lists ks es xs (map lowOf cs) (map highOf cs))) before)
 write-pairs-one snapshot ks es xs cs before = one-if-equal (writeOf (recordOf snapshot (lists ks es xs (map lowOf cs) (map highOf cs))) before)
 
+pub write-single-one : (snapshot : ℕ) (ks es xs : List ℕ) (c : Scan) (before : List ℕ)
+    → OneAnswer (λ (o : Writer.WriteOutcome). o ≡ writeOf (recordOf snapshot (lists ks es xs (c .low ∷ []) (c .high ∷ []))) before)
+write-single-one snapshot ks es xs c before = one-if-equal (writeOf (recordOf snapshot (lists ks es xs (c .low ∷ []) (c .high ∷ []))) before)
+
 pub place-one : (reader : LogReader) → OneAnswer (λ (n : ℕ). PlaceIs reader n)
 place-one reader = one-if-equal (reader .place)
 
@@ -111,4 +115,4 @@ pub step-one : (before after then : LogReader) (r q : Step) → Stepped before a
 step-one = only-step
 
 pub in-force-one : (a : Answer) (o b r q : RefT (List ℕ)) → InForce a o b r → InForce a o b q → SameSlice r q
-in-force-one a o b r q x y = let e = in-force-only a o b r q x y in record { bytes = e .0; block = e .1; start = e .2 }
+in-force-one = in-force-only

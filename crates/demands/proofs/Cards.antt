@@ -8,6 +8,7 @@ use native.Mathlib.Omega.{arith}
 use lib.ListN.{length, take}
 use lib.Seq.{take-all, take-append-seam}
 use Rattle.words.specs.Word.{Bytes}
+use Rattle.words.specs.Laws.{bytes-take}
 use Rattle.record.specs.declared.answer.Answer.{Answer}
 use Rattle.record.specs.Answer.{committed}
 use Rattle.record.specs.Parse.{parse}
@@ -28,7 +29,7 @@ use Rattle.meld.specs.Melds.{meldedOf}
 use Rattle.demands.specs.Runs.{verdicts, Card, Whole}
 use Rattle.demands.specs.Follows.{Follows, FollowsWhole, CutRun}
 use Rattle.demands.proofs.Following.{arranged, Followed, melding-follows}
-use Rattle.demands.proofs.Reading.{bytes-take, parts-bytes, first-bytes, Front, reading-front, whole-read}
+use Rattle.demands.proofs.Reading.{parts-bytes, first-bytes, Front, reading-front, whole-read}
 
 -- THE POOL AFTER A LOG
 

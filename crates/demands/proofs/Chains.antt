@@ -80,10 +80,10 @@ same-meld S m original result r r′ means is is′ ps h m₁ m₂ x₁ x₂ d�
 
 -- A CHAIN ON BYTES IS THE RULES' CHAIN
 
--- a chain of the rules and the answer and bytes that it stands for
-pub data Stands (c : Refreshed) (a : Answer) (result : List ℕ) : Type 0 where
-  for-record : (r′ : Rec) → c ≡ done r′ → a ≡ Names.committed → Valid r′ → result ≡ bytesOf r′ → Stands c a result
-  for-refusal : (v : Verdict) → c ≡ Rules.refused v → a ≡ verdictAnswer v → Stands c a result
+-- a chain of the rules comes to an answer and bytes: 0 and a record's bytes, or a refusal
+pub data ComesTo (c : Refreshed) (a : Answer) (result : List ℕ) : Type 0 where
+  for-record : (r′ : Rec) → c ≡ done r′ → a ≡ Names.committed → Valid r′ → result ≡ bytesOf r′ → ComesTo c a result
+  for-refusal : (v : Verdict) → c ≡ Rules.refused v → a ≡ verdictAnswer v → ComesTo c a result
 
 module _ (N Z : ℕ) (log : List ℕ) (bytes : Bytes log) (parts : List (List ℕ)) (last : Cut) (w : Walks log 0 parts last) where
   -- the rules' state after q records
@@ -98,26 +98,26 @@ module _ (N Z : ℕ) (log : List ℕ) (bytes : Bytes log) (parts : List (List �
   pub pool-few : {q : ℕ} {m : List ℕ} → PoolAt N Z log q m → q ≤ length (map parse parts)
   pool-few k = omega (arith, card-follows bytes w (k .card) .few, k .count, length-map parts parse)
 
-  pub chain-stands : {original result : List ℕ} {q : ℕ} {qs : List ℕ} {a : Answer} (r : Rec) → Bytes original → parse original ≡ some r
-      → Chain N Z log original q qs a result → Stands (chain (map St (q ∷ qs)) r) a result
+  pub chain-comes-to : {original result : List ℕ} {q : ℕ} {qs : List ℕ} {a : Answer} (r : Rec) → Bytes original → parse original ≡ some r
+      → Chain N Z log original q qs a result → ComesTo (chain (map St (q ∷ qs)) r) a result
   unfolding chain
-  chain-stands {original = original} {result = result} {q = q} {a = a} r b is (last-stop {m = m} k h) = go (once (St q) m original b r is a result (pool-means k) h)
+  chain-comes-to {original = original} {result = result} {q = q} {a = a} r b is (last-stop {m = m} k h) = go (once (St q) m original b r is a result (pool-means k) h)
     where
-      go : Once (St q) r a result → Stands (chain (map St (q ∷ [])) r) a result
+      go : Once (St q) r a result → ComesTo (chain (map St (q ∷ [])) r) a result
       go (went r′ e z v s) = for-record r′ (ap (λ (x : Refreshed). andThen x (chain [])) e) z v s
       go (said v e z n) = for-refusal v (ap (λ (x : Refreshed). andThen x (chain [])) e) z
-  chain-stands {original = original} {result = result} {q = q} {qs = q′ ∷ qs} {a = a} r b is (refused {m = m} k h never) = go (once (St q) m original b r is a result (pool-means k) h)
+  chain-comes-to {original = original} {result = result} {q = q} {qs = q′ ∷ qs} {a = a} r b is (refused {m = m} k h never) = go (once (St q) m original b r is a result (pool-means k) h)
     where
-      go : Once (St q) r a result → Stands (chain (map St (q ∷ q′ ∷ qs)) r) a result
+      go : Once (St q) r a result → ComesTo (chain (map St (q ∷ q′ ∷ qs)) r) a result
       go (went r′ e z v s) = absurd (never z)
       go (said v e z n) = for-refusal v (ap (λ (x : Refreshed). andThen x (chain (map St (q′ ∷ qs)))) e) z
-  chain-stands {original = original} {result = result} {q = q} {qs = q′ ∷ qs} {a = a} r b is (further {m = m} {between = between} k h t) =
-      go (λ r′ y i. chain-stands r′ y i t) (once (St q) m original b r is Names.committed between (pool-means k) h)
+  chain-comes-to {original = original} {result = result} {q = q} {qs = q′ ∷ qs} {a = a} r b is (further {m = m} {between = between} k h t) =
+      go (λ r′ y i. chain-comes-to r′ y i t) (once (St q) m original b r is Names.committed between (pool-means k) h)
     where
-      go : ((r′ : Rec) → Bytes between → parse between ≡ some r′ → Stands (chain (map St (q′ ∷ qs)) r′) a result)
-          → Once (St q) r Names.committed between → Stands (chain (map St (q ∷ q′ ∷ qs)) r) a result
+      go : ((r′ : Rec) → Bytes between → parse between ≡ some r′ → ComesTo (chain (map St (q′ ∷ qs)) r′) a result)
+          → Once (St q) r Names.committed between → ComesTo (chain (map St (q ∷ q′ ∷ qs)) r) a result
       go on (went r′ e z v s) =
-          subst (λ (x : Refreshed). Stands x a result) (sym (ap (λ (x : Refreshed). andThen x (chain (map St (q′ ∷ qs)))) e))
+          subst (λ (x : Refreshed). ComesTo x a result) (sym (ap (λ (x : Refreshed). andThen x (chain (map St (q′ ∷ qs)))) e))
           (on r′ (subst Bytes (sym s) (valid-bytes r′ v)) (ap parse s ∙ parse-bytesOf r′ v))
       go on (said v e z n) = absurd (n refl)
 
@@ -125,7 +125,7 @@ module _ (N Z : ℕ) (log : List ℕ) (bytes : Bytes log) (parts : List (List �
 
   module _ (p : ℕ) (m original : List ℕ) (at-p : PoolAt N Z log p m) (b : Bytes original) (r : Rec) (is : parse original ≡ some r) (a : Answer) (result : List ℕ) where
     -- a conflict said by a refresh is said by melding
-    stops : (q : ℕ) (c : Refreshed) → c ≡ Rules.refused conflict → verdict (St p) (some r) ≡ conflict → Stands c a result → ChainEnds N Z log m original q a result
+    stops : (q : ℕ) (c : Refreshed) → c ≡ Rules.refused conflict → verdict (St p) (some r) ≡ conflict → ComesTo c a result → ChainEnds N Z log m original q a result
     stops q c e v (for-record r′ d z u s) = done-not-refused (sym d ∙ e)
     stops q c e v (for-refusal x d z) =
         stopped (z ∙ ap verdictAnswer (refused-same (sym d ∙ e)))
@@ -140,7 +140,7 @@ module _ (N Z : ℕ) (log : List ℕ) (bytes : Bytes log) (parts : List (List �
         go x o (said v d z n) = done-not-refused (sym e ∙ d)
 
     -- a chain that was carried through
-    carries : (q : ℕ) (c : Refreshed) (r′ : Rec) → c ≡ done r′ → refresh (St q) (some r) ≡ done r′ → AnswersAlike (St p) r′ r → Stands c a result → ChainEnds N Z log m original q a result
+    carries : (q : ℕ) (c : Refreshed) (r′ : Rec) → c ≡ done r′ → refresh (St q) (some r) ≡ done r′ → AnswersAlike (St p) r′ r → ComesTo c a result → ChainEnds N Z log m original q a result
     carries q c r′ e f h (for-refusal v d z) = done-not-refused (sym e ∙ d)
     carries q c r′ e f h (for-record r″ d z v s) =
         let same : r″ ≡ r′ = done-same (sym d ∙ e) in
@@ -149,7 +149,7 @@ module _ (N Z : ℕ) (log : List ℕ) (bytes : Bytes log) (parts : List (List �
         carried z (one-refresh q r′ f result-is) (same-meld (St p) m original result r r′ (pool-means at-p) is reads (refresh-exactly (St q) r r′ .0 f .same-points) h)
 
     -- the rules' outcome is the bytes'
-    pub ends : (q : ℕ) (c : Refreshed) → ChainOutcome (St p) (St q) r c → Stands c a result → ChainEnds N Z log m original q a result
+    pub ends : (q : ℕ) (c : Refreshed) → ChainOutcome (St p) (St q) r c → ComesTo c a result → ChainEnds N Z log m original q a result
     ends q c (Ends.stopped e v) s = stops q c e v s
     ends q c (Ends.carried r′ e f h) s = carries q c r′ e f h s
 
@@ -164,4 +164,4 @@ demand-three-on-bytes N Z log bytes p m at-p left original b r is low near q qs 
     ends N Z log bytes (w .parts) (w .last) (w .walks) p m original at-p b r is a result (lastOf q qs)
     (chain (map (stateAt N Z (map parse (w .parts))) (q ∷ qs)) r)
     (demand-three N Z (map parse (w .parts)) p (pool-few N Z log bytes (w .parts) (w .last) (w .walks) at-p) left r low near q qs order)
-    (chain-stands N Z log bytes (w .parts) (w .last) (w .walks) r b is c)
+    (chain-comes-to N Z log bytes (w .parts) (w .last) (w .walks) r b is c)

@@ -25,9 +25,10 @@ use Rattle.meld.specs.declared.kept.Lookup.the-variants.{Unfit, Absent, Found}
 use Rattle.meld.specs.declared.melding.Melded.{Melded}
 use Rattle.meld.specs.Lookups.{lookupOf}
 use Rattle.meld.specs.Melds.{meldedOf}
+use Rattle.meld.proofs.Lookups.{lookup-case}
 use Rattle.refresh.specs.Refreshed.{RefreshOutcome, refreshOutcome, leftBy, refreshedOf}
 use Rattle.demands.specs.Runs.{Means}
-use Rattle.demands.specs.Fakes.{Library, AlwaysRefuses, AlwaysCommits, StoresNothing, OnlyFirst, Copies, AlwaysAhead, InventsLooks}
+use Rattle.demands.specs.Fakes.{Library, AlwaysRefuses, AlwaysCommits, StoresNothing, advanced, OnlyFirst, Copies, AlwaysAhead, InventsLooks}
 use Rattle.demands.proofs.Following.{meld-means}
 
 -- THE SAMPLES
@@ -97,21 +98,23 @@ module _ (L : Library) where
 
   -- what a lookup sees
   sees : (m : List ℕ) (S : State) (k : ℕ) → Means m S → L .lookup m k ≡ lookupOf (lookup k S)
-  sees m S k means = L .lookup-keeps m k (means .image .bytes) .fit (means .arrangement) (means .image) ∙ ap (λ (T : State). lookupOf (lookup k T)) (means .state)
+  sees m S k means = lookup-case m k (L .lookup m k) (L .lookup-keeps m k (means .image .bytes)) (means .arrangement) (means .image) ∙ ap (λ (T : State). lookupOf (lookup k T)) (means .state)
 
   -- THE FAKES
 
   -- a record that says nothing commits in a new pool
   pub not-always-refuses : AlwaysRefuses L → ⊥
   unfolding verdict judge reach meets hits refusalOr count store storeAll young drops apply
-  not-always-refuses f = f new (bytesOf (nothing 0)) (ap (λ (x : Melded). x .answer) (melded new (fresh 1 1) new-means (nothing 0) valid-nothing .0))
+  not-always-refuses f =
+      f new (bytesOf (nothing 0)) (new-means .image .bytes) (valid-bytes (nothing 0) valid-nothing)
+      (ap (λ (x : Melded). x .answer) (melded new (fresh 1 1) new-means (nothing 0) valid-nothing .0))
 
   -- no bytes at all are malformed
   pub not-always-commits : AlwaysCommits L → ⊥
   unfolding verdict parse
   not-always-commits f =
       let x = meld-means (fresh 1 1) new-means no-bytes (L .meld-keeps new [] (new-means .image .bytes) no-bytes) .0 in
-      omega (arith, ap (λ (a : Answer). a .number) (sym (f new []) ∙ ap (λ (y : Melded). y .answer) x))
+      omega (arith, ap (λ (a : Answer). a .number) (sym (f new [] (new-means .image .bytes) no-bytes) ∙ ap (λ (y : Melded). y .answer) x))
 
   -- the pool after put 10 = 100
   first : List ℕ
@@ -131,21 +134,21 @@ module _ (L : Library) where
   pub not-stores-nothing : StoresNothing L → ⊥
   unfolding first lookup verdict judge reach meets hits refusalOr count store storeAll young drops apply next
   not-stores-nothing f =
-      let e : L .lookup first 10 ≡ L .lookup new 10 = f new (bytesOf (put 0 100)) 10 in
+      let e : L .lookup first 10 ≡ L .lookup new 10 = f new (bytesOf (put 0 100)) 10 (new-means .image .bytes) (valid-bytes (put 0 100) valid-first) in
       let a : payload (L .lookup first 10) ≡ 100 = ap payload (sees first (next (fresh 1 1) (some (put 0 100))) 10 first-means) in
       let b : payload (L .lookup new 10) ≡ 0 = ap payload (sees new (fresh 1 1) 10 new-means) in
       omega (arith, ap payload e)
 
-  -- after put 10 = 5 at position 2 it is 5
+  -- after put 10 = 5 at position 2 it is 5, where one that only advances still has 100
   pub not-only-first : OnlyFirst L → ⊥
   unfolding first lookup verdict judge reach meets hits refusalOr count store storeAll young drops apply next
   not-only-first f =
       let S : State = next (fresh 1 1) (some (put 0 100)) in
-      let e : L .lookup (L .meld first (bytesOf (put 1 5)) .1) 10 ≡ L .lookup first 10 = f first (bytesOf (put 1 5)) S 10 first-means (omega arith) in
-      let a : payload (L .lookup (L .meld first (bytesOf (put 1 5)) .1) 10) ≡ 5 =
-      ap payload (sees (L .meld first (bytesOf (put 1 5)) .1) (next S (some (put 1 5))) 10 (melded first S first-means (put 1 5) valid-second .1)) in
-      let b : payload (L .lookup first 10) ≡ 100 = ap payload (sees first S 10 first-means) in
-      omega (arith, ap payload e)
+      let second : List ℕ = L .meld first (bytesOf (put 1 5)) .1 in
+      let stays : Means second (advanced S) = f .advances first (bytesOf (put 1 5)) S first-means (valid-bytes (put 1 5) valid-second) (omega arith) (omega arith) in
+      let a : payload (L .lookup second 10) ≡ 5 = ap payload (sees second (next S (some (put 1 5))) 10 (melded first S first-means (put 1 5) valid-second .1)) in
+      let b : payload (L .lookup second 10) ≡ 100 = ap payload (sees second (advanced S) 10 stays) in
+      omega arith
 
   -- nine bytes of output
   nine : Bytes (replicate 9 0)
@@ -156,7 +159,7 @@ module _ (L : Library) where
   unfolding refresh leftBy reach meets hits refusalOr bigEndian
   not-always-ahead f =
       let x = refreshed new (fresh 1 1) new-means (nothing 0) valid-nothing (replicate 9 0) nine in
-      omega (arith, ap (λ (a : Answer). a .number) (sym (f new (bytesOf (nothing 0)) (replicate 9 0)) ∙ ap (λ (o : RefreshOutcome). o .answer) x))
+      omega (arith, ap (λ (a : Answer). a .number) (sym (f new (bytesOf (nothing 0)) (replicate 9 0) (new-means .image .bytes) (valid-bytes (nothing 0) valid-nothing) nine) ∙ ap (λ (o : RefreshOutcome). o .answer) x))
 
   -- at position 1 the byte of weight 1 of its snapshot is 1, not 0
   pub not-copies : Copies L → ⊥
@@ -164,7 +167,7 @@ module _ (L : Library) where
   not-copies f =
       let S : State = next (fresh 1 1) (some (put 0 100)) in
       let x = refreshed first S first-means (nothing 0) valid-nothing (replicate 9 0) nine in
-      let e = f first (bytesOf (nothing 0)) (replicate 9 0) (ap (λ (o : RefreshOutcome). o .answer) x) in
+      let e = f first (bytesOf (nothing 0)) (replicate 9 0) (first-means .image .bytes) (valid-bytes (nothing 0) valid-nothing) nine (ap (λ (o : RefreshOutcome). o .answer) x) in
       let a : getD (take 9 (L .refresh first (bytesOf (nothing 0)) (replicate 9 0) .1)) 6 0 ≡ 1 = ap (λ (o : RefreshOutcome). getD (take 9 (o .output)) 6 0) x in
       let b : getD (take 9 (L .refresh first (bytesOf (nothing 0)) (replicate 9 0) .1)) 6 0 ≡ 0 = ap (λ (l : List ℕ). getD l 6 0) e in
       omega arith

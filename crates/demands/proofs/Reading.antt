@@ -1,19 +1,18 @@
 -- A card that has read some records of a log has melded the first of the parts that the log's walk hands out.
 -- Assumes nothing.
-use Prim.Native.Nat.{ℕ, zero, suc, _-_, _≤_, _<_}
+use Prim.Native.Nat.{ℕ, zero, suc, _-_, _≤_}
 use mathlib.Core.Path.{_≡_, refl, sym, ap, _∙_, subst}
 use mathlib.Core.List.{List}
 use native.Mathlib.Omega.{arith}
-use native.Mathlib.Decide.{decLt}
-use lib.ListN.{length, take, drop, getD, length-take, length-drop, List·getD-eq-default}
-use lib.Seq.{getD-take}
+use lib.ListN.{length, take, drop, length-drop}
 use denote.Ref.{now}
 use Rattle.words.specs.Word.{Bytes}
-use Rattle.words.specs.Laws.{bytes-drop}
+use Rattle.words.specs.Laws.{bytes-drop, bytes-take}
 use Rattle.log.specs.declared.found.Cut.{Cut}
 use Rattle.log.specs.declared.found.Cut.the-variants.{Record}
 use Rattle.log.specs.Log.{cutAt, partOf, CutIs}
 use Rattle.log.specs.Walk.{Walks, ends, breaks, hands}
+use Rattle.log.proofs.Told.{cut-case}
 use Rattle.log.proofs.Stands.{end-not-record, broken-not-record, same-next}
 use Rattle.meld.specs.declared.melding.Melded.{Melded}
 use Rattle.meld.specs.Melds.{Melds}
@@ -21,13 +20,6 @@ use Rattle.demands.specs.Runs.{Melding, none-left, ReadingOn, so-far, is
 use Rattle.demands.proofs.Following.{AllBytes, no-bytes, more-bytes}
 
 -- A LOG'S PARTS ARE BYTES
-
--- the first of some bytes
-pub bytes-take : (n : ℕ) (s : List ℕ) → Bytes s → Bytes (take n s)
-bytes-take n s b = record { byte = λ i. elim (decLt i n) [ yes l ↦ rw (getD-take n s i 0 l) (b .byte i) | no g ↦ past i (omega arith) ] }
-  where
-    past : (i : ℕ) → n ≤ i → getD (take n s) i 0 < 256
-    past i g = rw (List·getD-eq-default (take n s) 0 {n = i} (omega (arith, length-take n s))) (omega arith)
 
 -- what the walk hands out
 pub parts-bytes : {log : List ℕ} {place : ℕ} {parts : List (List ℕ)} {last : Cut} → Bytes log → Walks log place parts last → AllBytes parts
@@ -49,14 +41,18 @@ pub record Front (log : List ℕ) (place : ℕ) (m : List ℕ) (xs : List Melded
   pub melding : Melding m (take (length xs) parts) xs m′
   pub rest : Walks log place (drop (length xs) parts) last
 
+-- what `cut` has found stands there
+case : {log : List ℕ} {place next : ℕ} → CutIs log place (Record next) → Record next ≡ cutAt log place
+case {log = log} {place = place} {next = next} c = cut-case log place (Record next) c
+
 -- one record, where the walk hands out the same
 pub reading-front : {log : List ℕ} {place place′ : ℕ} {m m′ : List ℕ} {xs : List Melded} {parts : List (List ℕ)} {last : Cut}
     → ReadingOn log place m xs place′ m′ → Walks log place parts last → Front log place′ m xs m′ parts last
 reading-front so-far w = record { few = omega arith; melding = none-left; rest = w }
-reading-front (ReadingOn.one-more l c h d t) (ends e) = end-not-record (sym e ∙ sym (c .case))
-reading-front (ReadingOn.one-more l c h d t) (breaks e) = broken-not-record (sym e ∙ sym (c .case))
+reading-front (ReadingOn.one-more l c h d t) (ends e) = end-not-record (sym e ∙ sym (case c))
+reading-front (ReadingOn.one-more l c h d t) (breaks e) = broken-not-record (sym e ∙ sym (case c))
 reading-front {log = log} {place = place} {m = m} (ReadingOn.one-more {next = next} {m′ = m₁} {a = a} {lent = lent} {part = part} l c h d t) (hands {next = other} {parts = parts} {last = last} e w) =
-    let same : other ≡ next = same-next (sym e ∙ sym (c .case)) in
+    let same : other ≡ next = same-next (sym e ∙ sym (case c)) in
     let bytes : now part ≡ partOf (Record other) log place = h .bytes ∙ ap (λ (s : List ℕ). partOf (cutAt s place) s place) l ∙ ap (λ (x : Cut). partOf x log place) e in
     let f = reading-front t (subst (λ (n : ℕ). Walks log n parts last) same w) in
     record { few = omega (arith, f .few); melding = Melding.one-more (subst (λ (s : List ℕ). Melds m s m₁ a) bytes d) (f .melding); rest = f .rest }
@@ -70,6 +66,6 @@ whole-read {log = log} {place = place} {xs = xs} {parts = parts} {c = c} f i o =
     left z = omega (arith, length-drop (length xs) parts, f .few)
 
     go : {last : Cut} (rest : List (List ℕ)) → drop (length xs) parts ≡ rest → Walks log place rest last → (length xs ≡ length parts) × (c ≡ last)
-    go rest d (ends e) = (left (ap (length {A = List ℕ}) d), i .case ∙ e)
-    go rest d (breaks e) = (left (ap (length {A = List ℕ}) d), i .case ∙ e)
-    go rest d (hands e w) = absurd (subst isOver (i .case ∙ e) o)
+    go rest d (ends e) = (left (ap (length {A = List ℕ}) d), cut-case log place c i ∙ e)
+    go rest d (breaks e) = (left (ap (length {A = List ℕ}) d), cut-case log place c i ∙ e)
+    go rest d (hands e w) = absurd (subst isOver (cut-case log place c i ∙ e) o)

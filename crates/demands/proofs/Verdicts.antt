@@ -27,10 +27,12 @@ use Rattle.meld.specs.declared.kept.Lookup.{Lookup}
 use Rattle.meld.specs.declared.melding.Melded.{Melded}
 use Rattle.meld.specs.Lookups.{LooksUp, lookupOf}
 use Rattle.meld.specs.Melds.{Melds, meldedOf}
+use Rattle.meld.proofs.Lookups.{lookup-case}
 use Rattle.demands.specs.Runs.{Means, PoolAt}
 use Rattle.demands.proofs.Following.{AllBytes, no-bytes, more-bytes, parsed-valid, meld-means}
 use Rattle.demands.proofs.Reading.{parts-bytes, first-bytes}
-use Rattle.demands.proofs.Cards.{map-take, card-follows}
+use Rattle.demands.proofs.Cards.{map-take}
+use Rattle.demands.proofs.Chains.{pool-means}
 
 -- what bytes parse to is well formed
 parsed-well-formed : {parts : List (List ℕ)} → AllBytes parts → WellFormed (map parse parts)
@@ -57,16 +59,16 @@ module _ (N Z : ℕ) (log : List ℕ) (lent : Bytes log) (parts : List (List ℕ
   past-well-formed : WellFormed past
   past-well-formed = parsed-well-formed (first-bytes q (parts-bytes lent w))
 
-  pool-means : Means m (after (fresh N Z) past)
-  pool-means =
-      subst (λ (l : List (Option Rec)). Means m (after (fresh N Z) l)) (map-take parse q parts)
-      (subst (λ (n : ℕ). Means m (after (fresh N Z) (take n (map parse parts)))) (at-q .count) (card-follows lent w (at-q .card) .means))
+  -- the pool means the state after them
+  past-means : Means m (after (fresh N Z) past)
+  past-means =
+      subst (λ (l : List (Option Rec)). Means m (after (fresh N Z) l)) (map-take parse q parts) (pool-means N Z log lent parts last w at-q)
 
   module _ (bytes : List ℕ) (b : Bytes bytes) (m′ : List ℕ) (x : Melded) (h : Melds m bytes m′ x) where
     -- a record commits exactly if it passes the checks of document 01's table
-    pub commits-exactly-on-bytes : (x .answer ≡ Names.committed) ↔ Passes N Z past (parse bytes)
+    pub commits-exactly-on-bytes : (x .answer ≡ Names.committed) ↔ Passes N Z (map parse (take q parts)) (parse bytes)
     commits-exactly-on-bytes =
-        let e = ap (λ (y : Melded). y .answer) (meld-means (after (fresh N Z) past) pool-means b h .0) in
+        let e = ap (λ (y : Melded). y .answer) (meld-means (after (fresh N Z) past) past-means b h .0) in
         let c = commits-exactly N Z past (parse bytes) in (
           λ z. c .0 (zero-is-committed (verdict (after (fresh N Z) past) (parse bytes)) (sym e ∙ z)),
           λ p. e ∙ ap verdictAnswer (c .1 p),
@@ -75,7 +77,7 @@ module _ (N Z : ℕ) (log : List ℕ) (lent : Bytes log) (parts : List (List ℕ
     -- its looks are at most 65 + 64·(points + 2·scans)
     pub looks-limit-on-bytes : (r : Rec) → parse bytes ≡ some r → x .looks ≤ 65 + 64 * (length (r .points) + 2 * length (r .scans))
     looks-limit-on-bytes r is =
-        let mean = pool-means in
+        let mean = past-means in
         let lawful = subst Lawful (mean .state) (mean .image .arranged .lawful) in
         omega (
           arith,
@@ -84,7 +86,7 @@ module _ (N Z : ℕ) (log : List ℕ) (lent : Bytes log) (parts : List (List ℕ
         )
 
   -- a lookup sees the last committed write of its key
-  pub lookup-on-bytes : (k : ℕ) (x : Lookup) → LooksUp m k x → x ≡ lookupOf (seen (lastWrite k none (commits (fresh N Z) past)))
+  pub lookup-on-bytes : (k : ℕ) (x : Lookup) → LooksUp m k x → x ≡ lookupOf (seen (lastWrite k none (commits (fresh N Z) (map parse (take q parts)))))
   lookup-on-bytes k x h =
-      let mean = pool-means in
-      h .fit (mean .arrangement) (mean .image) ∙ ap (λ (S : State). lookupOf (lookup k S)) (mean .state) ∙ ap lookupOf (last-write N Z past past-well-formed k)
+      let mean = past-means in
+      lookup-case m k x h (mean .arrangement) (mean .image) ∙ ap (λ (S : State). lookupOf (lookup k S)) (mean .state) ∙ ap lookupOf (last-write N Z past past-well-formed k)

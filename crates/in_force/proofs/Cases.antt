@@ -14,9 +14,10 @@ use types.Run.{OneOf}
 use Rattle.record.specs.declared.answer.Answer.{Answer}
 use Rattle.log.specs.declared.found.Cut.{Cut}
 use Rattle.log.specs.declared.found.Cut.the-variants.{End, Broken, Record}
-use Rattle.log.specs.Log.{cutAt, partOf}
+use Rattle.log.specs.Log.{cutAt, partOf, CutIs}
 use Rattle.log.proofs.found.Cut as T
-use Rattle.log.proofs.Stands.{RecordAt, record-tells}
+use Rattle.log.proofs.Told.{cut-case}
+use Rattle.log.proofs.Stands.{record-tells}
 use Rattle.in_force.specs.InForce.{Source, sourceOf, ifCut, bytesFrom, InForce}
 
 module _ (a : Answer) (o b : RefT (List ℕ)) where
@@ -53,5 +54,5 @@ module _ (a : Answer) (o b : RefT (List ℕ)) where
           let d : cutAt (now b) 0 ≡ Record next = sym is ∙ found in
           record { bytes = simp (e, d); block = simp e; start = simp e (omega arith) }
 
-pub ends-inside : (log : List ℕ) (next : ℕ) (c : Cut) → c ≡ cutAt log 0 → c ≡ Record next → next ≤ length log
-ends-inside log next c is found = record-tells log 0 next (sym is ∙ found) .inside
+pub ends-inside : (log : List ℕ) (next : ℕ) (c : Cut) → CutIs log 0 c → c ≡ Record next → next ≤ length log
+ends-inside log next c is found = record-tells log 0 next (sym (cut-case log 0 c is) ∙ found) .inside

@@ -12,10 +12,10 @@ use lib.ListN.{length, getD, take, drop, length-append, length-drop}
 use lib.Seq.{getD-take, take-take, length-take-le}
 use Rattle.log.specs.declared.found.Cut.{Cut}
 use Rattle.log.specs.declared.found.Cut.the-variants.{End, Broken, Record}
-use Rattle.log.specs.Log.{cutAt, lengthAt, partOf}
-use Rattle.log.specs.Walk.{Walks, ends, breaks, hands, joined, CutLog}
-use Rattle.log.proofs.Stands.{RecordAt, record-tells, end-tells, end-found, broken-found}
-use Rattle.log.proofs.Same.{Agree, same-length, cut-same, part-same}
+use Rattle.log.specs.Log.{cutAt, lengthAt, partOf, RecordAt}
+use Rattle.log.specs.Walk.{Walks, ends, breaks, hands, joined, Agree, CutLog}
+use Rattle.log.proofs.Stands.{record-tells, end-tells, end-found, broken-found}
+use Rattle.log.proofs.Same.{same-length, cut-same, part-same}
 
 -- the theorem's statement from a place on
 record CutFrom (log : List ℕ) (place : ℕ) (parts : List (List ℕ)) (n : ℕ) : Type 0 where

@@ -12,9 +12,9 @@ use denote.Enum.Declared.{tagOf}
 use types.Run.{OneOf}
 use Rattle.log.specs.declared.found.Cut.{Cut}
 use Rattle.log.specs.declared.found.Cut.the-variants.{End, Broken, Record}
-use Rattle.log.specs.Log.{cutAt, partOf, startOf, HandedOut}
+use Rattle.log.specs.Log.{cutAt, partOf, startOf, HandedOut, RecordAt}
 use Rattle.log.proofs.found.Cut as T
-use Rattle.log.proofs.Stands.{RecordAt, record-tells}
+use Rattle.log.proofs.Stands.{record-tells}
 
 -- where `cut` answers a record, one stands there
 pub stands : (log : List ℕ) (place next : ℕ) (c : Cut) → c ≡ cutAt log place → c ≡ Record next → RecordAt log place next

@@ -1,6 +1,7 @@
 mod Cases
 mod Handed
 pub mod Stands
+pub mod Told
 pub mod Same
 pub mod Walk
 pub mod Step

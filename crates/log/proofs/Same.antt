@@ -9,13 +9,10 @@ use lib.ListN.{length, getD, take, drop, length-append, length-take, length-drop
 use lib.Seq.{getD-take, getD-append-add, getD-drop, take-add, drop-at, length-take-le}
 use Rattle.words.specs.Laws.{word-same, word-drop}
 use Rattle.log.specs.declared.found.Cut.the-variants.{Record}
-use Rattle.log.specs.Log.{cutAt, lengthAt, partOf}
+use Rattle.log.specs.Log.{cutAt, lengthAt, partOf, RecordAt}
+use Rattle.log.specs.Walk.{Agree}
 use Rattle.log.specs.PartSized.{PartSized}
-use Rattle.log.proofs.Stands.{RecordAt, record-tells, record-found}
-
--- two logs have the same bytes from a place to another
-pub record Agree (log other : List ℕ) (place next : ℕ) : Type 0 where
-  pub byte : (i : ℕ) → place ≤ i → i < next → getD other i 0 ≡ getD log i 0
+use Rattle.log.proofs.Stands.{record-tells, record-found}
 
 -- then the length said there is the same
 pub same-length : (log other : List ℕ) (place next : ℕ) → place + 2 ≤ next → Agree log other place next → lengthAt other place ≡ lengthAt log place

@@ -11,14 +11,7 @@ use lib.Dec.{ltb, eqb}
 use borrow.Author.Tests.{eqb-true, ltb-false, eq-eqb, ne-eqb, le-ltb}
 use Rattle.log.specs.declared.found.Cut.{Cut}
 use Rattle.log.specs.declared.found.Cut.the-variants.{End, Broken, Record}
-use Rattle.log.specs.Log.{cutAt, lengthAt, pastAt, minLength, maxLength}
-
--- a whole record stands at the place, and next is the place past it
-pub record RecordAt (log : List ℕ) (place next : ℕ) : Type 0 where
-  pub least : minLength ≤ lengthAt log place
-  pub most : lengthAt log place ≤ maxLength
-  pub past : next ≡ pastAt log place
-  pub inside : next ≤ length log
+use Rattle.log.specs.Log.{cutAt, lengthAt, pastAt, minLength, maxLength, RecordAt}
 
 -- a test is true or false
 by-case : {P : Type 0} (b : Bool) → (b ≡ true → P) → (b ≡ false → P) → P

@@ -6,7 +6,7 @@ use mathlib.Core.List.{List, [], _∷_}
 use Rattle.log.specs.declared.found.Cut.{Cut}
 use Rattle.log.specs.declared.found.Cut.the-variants.{End, Broken, Record}
 use Rattle.log.specs.Log.{cutAt, partOf}
-use Rattle.log.specs.Walk.{Walks, ends, breaks, hands}
+use Rattle.log.specs.Walk.{Walks, ends, breaks, hands, WalkPast}
 use Rattle.log.proofs.Stands.{end-not-record, broken-not-record, same-next}
 use Rattle.log.proofs.Walk.{walks-once}
 
@@ -19,15 +19,9 @@ pub walk-breaks : {log : List ℕ} {place : ℕ} {parts : List (List ℕ)} {last
     → (parts ≡ []) × (last ≡ Broken)
 walk-breaks w e = walks-once w [] Broken (breaks e)
 
--- what is left of a walk past a record that stands at the place
-pub record Past (log : List ℕ) (place next : ℕ) (parts : List (List ℕ)) (last : Cut) : Type 0 where
-  pub rest : List (List ℕ)
-  pub all : parts ≡ partOf (Record next) log place ∷ rest
-  pub walks : Walks log next rest last
-
 -- where a record stands, it is the next part, and the walk goes on past it
 pub walk-goes-on : {log : List ℕ} {place : ℕ} {parts : List (List ℕ)} {last : Cut} (next : ℕ) → Walks log place parts last → cutAt log place ≡ Record next
-    → Past log place next parts last
+    → WalkPast log place next parts last
 walk-goes-on next (ends d) e = end-not-record (sym d ∙ e)
 walk-goes-on next (breaks d) e = broken-not-record (sym d ∙ e)
 walk-goes-on {log = log} {place = place} next (hands {next = other} {parts = rest} {last = last} d w) e =

@@ -10,35 +10,29 @@ use lib.Seq.{getD-take, getD-drop, drop-drop, length-take-le, drop-append-seam, 
 use Rattle.words.specs.Laws.{word-same}
 use Rattle.log.specs.declared.found.Cut.{Cut}
 use Rattle.log.specs.declared.found.Cut.the-variants.{End, Broken, Record}
-use Rattle.log.specs.Log.{cutAt, lengthAt, partOf}
-use Rattle.log.specs.Walk.{Walks, ends, breaks, hands, joined}
+use Rattle.log.specs.Log.{cutAt, lengthAt, partOf, RecordAt}
+use Rattle.log.specs.Walk.{Walks, HasWalk, ends, breaks, hands, joined}
 use Rattle.log.specs.PartSized.{PartSized, PartsSized, no-part, one-more}
-use Rattle.log.proofs.Stands.{RecordAt, record-tells, end-tells, end-found, end-not-record, broken-not-record, broken-not-end, same-next}
+use Rattle.log.proofs.Stands.{record-tells, end-tells, end-found, end-not-record, broken-not-record, broken-not-end, same-next}
 use Rattle.log.proofs.Same.{cut-here}
 
 -- EVERY LOG HAS A WALK
 
--- a walk from a place on: what it hands out and how it ends
-pub record Walked (log : List ℕ) (place : ℕ) : Type 0 where
-  pub parts : List (List ℕ)
-  pub last : Cut
-  pub walks : Walks log place parts last
-
 -- one step of it, where the rest is had wherever a record stands
-walked-step : (log : List ℕ) (place : ℕ) → ((next : ℕ) → RecordAt log place next → Walked log next) → (c : Cut) → cutAt log place ≡ c → Walked log place
+walked-step : (log : List ℕ) (place : ℕ) → ((next : ℕ) → RecordAt log place next → HasWalk log next) → (c : Cut) → cutAt log place ≡ c → HasWalk log place
 walked-step log place rest End e = record { parts = []; last = End; walks = ends e }
 walked-step log place rest Broken e = record { parts = []; last = Broken; walks = breaks e }
 walked-step log place rest (Record next) e =
-    let w : Walked log next = rest next (record-tells log place next e) in
+    let w : HasWalk log next = rest next (record-tells log place next e) in
     record { parts = partOf (Record next) log place ∷ w .parts; last = w .last; walks = hands e (w .walks) }
 
 -- with a bound on the bytes left: each record takes some
-walked-within : (log : List ℕ) (bound place : ℕ) → length log < place + bound → Walked log place
+walked-within : (log : List ℕ) (bound place : ℕ) → length log < place + bound → HasWalk log place
 walked-within log zero place h = walked-step log place (λ next r. absurd (omega (arith, r .past, r .inside))) (cutAt log place) refl
 walked-within log (suc bound) place h = walked-step log place (λ next r. walked-within log bound next (omega (arith, r .past))) (cutAt log place) refl
 
 -- every log has a walk, from every place
-pub walked : (log : List ℕ) (place : ℕ) → Walked log place
+pub walked : (log : List ℕ) (place : ℕ) → HasWalk log place
 walked log place = walked-within log (suc (length log)) place (omega arith)
 
 -- AND ONLY ONE

@@ -1,14 +1,14 @@
 -- Document 01, "The log": what stands at a place of a log, and what is handed out there.
 -- Assumes nothing: these are definitions.
-use Prim.Native.Nat.{ℕ, _+_, _-_}
+use Prim.Native.Nat.{ℕ, _+_, _-_, _≤_}
 use mathlib.Core.Path.{_≡_}
-use mathlib.Core.Bool.{Bool, not, _&&_, _||_}
+use mathlib.Core.Bool.{Bool, _||_}
 use mathlib.Core.Option.{Option, none, some}
 use mathlib.Core.List.{List, []}
 use lib.ListN.{length, take, drop}
 use lib.Dec.{ltb, eqb}
 use denote.Ref.{RefT, now, ptr}
-use Rattle.words.specs.Choice.{if_then_else_}
+use Rattle.words.specs.Choice.{if_then_else_, valueOr}
 use Rattle.words.specs.Word.{word}
 use Rattle.record.specs.declared.answer.Answer.{Answer}
 use Rattle.record.specs.Answer.{brokenLog}
@@ -41,6 +41,13 @@ brokenAt log place =
     ltb (length log) (place + 2) || ltb (length log) place || ltb (lengthAt log place) minLength || ltb maxLength (lengthAt log place)
     || ltb (length log) (pastAt log place)
 
+-- a whole record stands at the place, and next is the place past it (R14): its length is from 7 to 903, and it does not run past the end
+pub record RecordAt (log : List ℕ) (place next : ℕ) : Type 0 where
+  pub least : minLength ≤ lengthAt log place
+  pub most : lengthAt log place ≤ maxLength
+  pub past : next ≡ pastAt log place
+  pub inside : next ≤ length log
+
 -- "exactly at the end, it says "end""; then broken; "otherwise it hands out that part and its place moves past it"
 unfoldable pub cutAt : List ℕ → ℕ → Cut
 cutAt log place =
@@ -48,16 +55,20 @@ cutAt log place =
     if brokenAt log place then Broken else
     Record (pastAt log place)
 
--- the paper's number for each case: a broken log is 10; "end" and a record handed out have no number
-abbrev pub cutAnswer : Cut → Option Answer
-cutAnswer End = none
-cutAnswer Broken = some brokenLog
-cutAnswer (Record next) = none
+-- what is told of a place (R14): the answer, where the rules have a number for it, and the place past the record, where one is handed out
+pub record CutTold : Type 0 where
+  pub answer : Option Answer
+  pub past : Option ℕ
 
--- what `cut` promises of its answer: the case that stands at the place, and the paper's number for it
+-- of each case: "end" has no number and hands nothing out; a broken log is 10; a record has no number, and its place past it is told
+abbrev pub cutTold : Cut → CutTold
+cutTold End = record { answer = none; past = none }
+cutTold Broken = record { answer = some brokenLog; past = none }
+cutTold (Record next) = record { answer = none; past = some next }
+
+-- what `cut` promises of its answer: what is told by it is what is told of the case that stands at the place
 pub record CutIs (log : List ℕ) (place : ℕ) (r : Cut) : Type 0 where
-  pub case : r ≡ cutAt log place
-  pub number : cutAnswer r ≡ (if not (endsAt log place) && brokenAt log place then some brokenLog else none)
+  pub told : cutTold r ≡ cutTold (cutAt log place)
 
 -- the part handed out: "with "end" or 10 .. empty", otherwise the bytes from the place to the place past the record
 abbrev pub partOf : Cut → List ℕ → ℕ → List ℕ
@@ -77,8 +88,13 @@ pub record HandedOut (log : RefT (List ℕ)) (place : ℕ) (r : RefT (List ℕ))
   pub block : ptr r .0 ≡ ptr log .0
   pub start : ptr r .1 ≡ ptr log .1 + startOf (cutAt (now log) place) place
 
--- the place afterwards: "with "end" or 10 .. unchanged", otherwise past the record
+-- two slices are one (R43): the same bytes, at the same place of the same memory. (What else a slice has in the logic is the name under
+-- which it is tracked there, which no program sees.)
+pub record SameSlice (r q : RefT (List ℕ)) : Type 0 where
+  pub bytes : now r ≡ now q
+  pub block : ptr r .0 ≡ ptr q .0
+  pub start : ptr r .1 ≡ ptr q .1
+
+-- the place afterwards: past the record that is handed out, else (""end" or 10 .. unchanged") the same place
 abbrev pub placeAfter : Cut → ℕ → ℕ
-placeAfter End place = place
-placeAfter Broken place = place
-placeAfter (Record next) place = next
+placeAfter c place = valueOr place (cutTold c .past)

@@ -3,7 +3,7 @@
 use Prim.Native.Nat.{ℕ, _+_, _≤_, _<_}
 use mathlib.Core.Path.{_≡_}
 use mathlib.Core.List.{List, [], _∷_, _++_}
-use lib.ListN.{length, take}
+use lib.ListN.{length, getD, take}
 use Rattle.log.specs.declared.found.Cut.{Cut}
 use Rattle.log.specs.declared.found.Cut.the-variants.{End, Broken, Record}
 use Rattle.log.specs.Log.{cutAt, partOf}
@@ -14,6 +14,22 @@ pub data Walks (log : List ℕ) : ℕ → List (List ℕ) → Cut → Type 0 whe
   breaks : {place : ℕ} → cutAt log place ≡ Broken → Walks log place [] Broken
   hands : {place next : ℕ} {parts : List (List ℕ)} {last : Cut} → cutAt log place ≡ Record next → Walks log next parts last
       → Walks log place (partOf (Record next) log place ∷ parts) last
+
+-- some walk from a place on (R15): what it hands out and how it ends
+pub record HasWalk (log : List ℕ) (place : ℕ) : Type 0 where
+  pub parts : List (List ℕ)
+  pub last : Cut
+  pub walks : Walks log place parts last
+
+-- what is left of a walk past a record that stands at the place (R15)
+pub record WalkPast (log : List ℕ) (place next : ℕ) (parts : List (List ℕ)) (last : Cut) : Type 0 where
+  pub rest : List (List ℕ)
+  pub all : parts ≡ partOf (Record next) log place ∷ rest
+  pub walks : Walks log next rest last
+
+-- two logs have the same bytes from a place to another
+pub record Agree (log other : List ℕ) (place next : ℕ) : Type 0 where
+  pub byte : (i : ℕ) → place ≤ i → i < next → getD other i 0 ≡ getD log i 0
 
 -- the parts back to back
 abbrev pub joined : List (List ℕ) → List ℕ

@@ -5,12 +5,12 @@ use mathlib.Core.Path.{_≡_, sym, _∙_}
 use Prim.Native.Nat.{ℕ}
 use mathlib.Core.List.{List}
 use denote.Ref.{RefT, now}
-use Rattle.log.specs.Log.{HandedOut}
-use Rattle.log.proofs.Only.{SameSlice, only-cut, only-part}
+use Rattle.log.specs.Log.{HandedOut, SameSlice}
+use Rattle.log.proofs.Only.{only-cut, only-part}
 use Rattle.log_reader.specs.declared.LogReader.{LogReader}
 use Rattle.log_reader.specs.declared.Step.{Step}
 use Rattle.log_reader.specs.declared.Move.{Move}
-use Rattle.log_reader.specs.LogReader.{Opened, PlaceIs, Stepped, Moved}
+use Rattle.log_reader.specs.LogReader.{Opened, PlaceIs, Stepped, SameStep, Moved}
 
 -- two readers with the same log and the same place are one
 reader-same : (r q : LogReader) → r .log ≡ q .log → r .place ≡ q .place → r ≡ q
@@ -23,11 +23,6 @@ only-new lent r q a b = reader-same r q (a .log ∙ sym (b .log)) (a .place ∙ 
 -- `place`: one number for each reader
 pub only-place : (reader : LogReader) (n m : ℕ) → PlaceIs reader n → PlaceIs reader m → n ≡ m
 only-place reader n m a b = a ∙ sym b
-
--- two steps are one: the same case, and one slice of the log as the part
-pub record SameStep (r q : Step) : Type 0 where
-  pub found : r .found ≡ q .found
-  pub part : SameSlice (r .part) (q .part)
 
 -- `step`: one step for each reader, and one reader afterwards
 pub only-step : (before after then : LogReader) (r q : Step) → Stepped before after r → Stepped before then q → SameStep r q × (after ≡ then)

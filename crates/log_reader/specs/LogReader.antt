@@ -5,7 +5,7 @@ use Prim.Native.Nat.{ℕ}
 use mathlib.Core.Path.{_≡_}
 use mathlib.Core.List.{List}
 use denote.Ref.{RefT, now}
-use Rattle.log.specs.Log.{CutIs, HandedOut, cutAt, placeAfter}
+use Rattle.log.specs.Log.{CutIs, HandedOut, SameSlice, cutAt, placeAfter}
 use Rattle.log_reader.specs.declared.LogReader.{LogReader}
 use Rattle.log_reader.specs.declared.Step.{Step}
 use Rattle.log_reader.specs.declared.Move.{Move}
@@ -26,6 +26,11 @@ pub record Stepped (before after : LogReader) (r : Step) : Type 0 where
   pub part : HandedOut (before .log) (before .place) (r .part)
   pub log : after .log ≡ before .log
   pub place : after .place ≡ placeAfter (cutAt (now (before .log)) (before .place)) (before .place)
+
+-- two steps are one (R43): the same case, and one slice of the log as the part
+pub record SameStep (r q : Step) : Type 0 where
+  pub found : r .found ≡ q .found
+  pub part : SameSlice (r .part) (q .part)
 
 -- the same step for a caller that holds no reader: what stands at the place, and the place afterwards
 pub record Moved (log : List ℕ) (place : ℕ) (r : Move) : Type 0 where

@@ -1,7 +1,7 @@
 // The two forms over structs, run: the log reader over a small log, and the writer's entry for pairs.
 // The log is document 01's two whole records back to back, and one byte that is no record. First a line with the place of a new reader
-// after one step. Then for each step from a place a line: what was found (1 a record, 0 the end, 10 a broken log), the place afterwards,
-// and how many bytes were handed out. Then the second of the two records is written, with its scan as a pair, and printed: answer, size,
+// after one step. Then for each step from a place a line: what was found there, in words (`record`, `end` or `broken`), the place
+// afterwards, and how many bytes were handed out. Then the second of the two records is written, with its scan as a pair, and printed: answer, size,
 // and the bytes.
 ghost use mathlib.Core.Path.{_≡_};
 ghost use Rattle.log.specs.Log.{cutAt, placeAfter};
@@ -9,12 +9,12 @@ use log::Cut;
 use log_reader::LogReader;
 use record::Scan;
 
-// The number that a line starts with.
-fn number(found: Cut) -> u64 {
+// Prints the word that a line begins with.
+fn print_found(found: Cut) -> bool {
     match found {
-        Cut::End => 0,
-        Cut::Broken => 10,
-        Cut::Record(_) => 1,
+        Cut::End => io::write_all(1, b"end"),
+        Cut::Broken => io::write_all(1, b"broken"),
+        Cut::Record(_) => io::write_all(1, b"record"),
     }
 }
 
@@ -32,7 +32,7 @@ fn line(log: &[u8], place: usize) -> usize {
     let step = log_reader::step_at(log, place);
     let part = log_reader::part_at(log, place);
     let found = step.found;
-    io::print_decimal(1, number(found));
+    print_found(found);
     io::write_all(1, b" ");
     io::print_decimal(1, step.place as u64);
     io::write_all(1, b" ");

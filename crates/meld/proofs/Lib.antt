@@ -1,7 +1,7 @@
 pub mod AfterState
 mod Judging
 mod Verdicts
-mod Lookups
+pub mod Lookups
 mod Readings
 mod Whole
 pub mod Only

@@ -13,6 +13,7 @@ use Rattle.meld.specs.declared.melding.Melded.{Melded}
 use Rattle.meld.specs.After.{afterIn}
 use Rattle.meld.specs.Melds.{Melds}
 use Rattle.meld.specs.Lookups.{LooksUp}
+use Rattle.meld.proofs.Lookups.{lookup-told-apart}
 
 -- no second answer, no second count of looks and no second byte of meld, for any bytes lent as pool and as record
 pub only-meld : (m bytes m′ m″ : List ℕ) (a b : Melded) → Bytes m → Melds m bytes m′ a → Melds m bytes m″ b → (a ≡ b) × (m′ ≡ m″)
@@ -30,5 +31,5 @@ pub only-lookup : (m : List ℕ) (k : ℕ) (r q : Lookup) → Bytes m → LooksU
 only-lookup m k r q lent a b = go (fit-or-not m lent)
   where
     go : Dec (Fit m) → r ≡ q
-    go (yes f) = a .fit (f .arrangement) (f .image) ∙ sym (b .fit (f .arrangement) (f .image))
-    go (no n) = a .unfit n ∙ sym (b .unfit n)
+    go (yes f) = lookup-told-apart r q (a .fit (f .arrangement) (f .image) ∙ sym (b .fit (f .arrangement) (f .image)))
+    go (no n) = lookup-told-apart r q (a .unfit n ∙ sym (b .unfit n))

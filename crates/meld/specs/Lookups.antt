@@ -11,20 +11,25 @@ use Rattle.pool.specs.Image.{Arrangement, Image, Fit, stateOf}
 use Rattle.meld.specs.declared.kept.Lookup.{Lookup}
 use Rattle.meld.specs.declared.kept.Lookup.the-variants.{Unfit, Absent, Found}
 
--- the paper's number for each case: only 7 has one
-abbrev pub lookupAnswer : Lookup → Option Answer
-lookupAnswer Unfit = some unfitPool
-lookupAnswer Absent = none
-lookupAnswer (Found x w) = none
+-- what a lookup tells (R31): the answer, where the rules have a number for it; payload and position of the last write, where one is found
+pub record LookupTold : Type 0 where
+  pub answer : Option Answer
+  pub payload : Option ℕ
+  pub position : Option ℕ
+
+-- in each case: an unfit pool is 7; an absent key has no number; one that is found has none either, and its payload and position are told
+abbrev pub lookupTold : Lookup → LookupTold
+lookupTold Unfit = record { answer = some unfitPool; payload = none; position = none }
+lookupTold Absent = record { answer = none; payload = none; position = none }
+lookupTold (Found x w) = record { answer = none; payload = some x; position = some w }
 
 -- what the rules see, as the answer
 abbrev pub lookupOf : Seen → Lookup
 lookupOf absent = Absent
 lookupOf (found x w) = Found x w
 
--- for the state that the pool means, what the rules' lookup sees, which has no number; 7 where it means none
+-- what `lookup` promises: for the state that the pool means, what is told of what the rules' lookup sees; where it means none, what is
+-- told of an unfit pool
 pub record LooksUp (m : List ℕ) (k : ℕ) (r : Lookup) : Type 0 where
-  pub fit : (A : Arrangement) → Image m A → r ≡ lookupOf (lookup k (stateOf A))
-  pub unfit : (Fit m → ⊥) → r ≡ Unfit
-  pub no-number : Fit m → lookupAnswer r ≡ none
-  pub number : (Fit m → ⊥) → lookupAnswer r ≡ some unfitPool
+  pub fit : (A : Arrangement) → Image m A → lookupTold r ≡ lookupTold (lookupOf (lookup k (stateOf A)))
+  pub unfit : (Fit m → ⊥) → lookupTold r ≡ lookupTold Unfit

@@ -1,2 +1,1 @@
 mod PairLaws
-pub mod Only

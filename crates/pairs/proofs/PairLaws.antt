@@ -15,7 +15,7 @@ use Rattle.record.specs.declared.point.Scan.{Scan}
 use Rattle.record.specs.Record.{Rec}
 use Rattle.record.specs.Reader.{lists, lowOf, highOf}
 use Rattle.writer.specs.Writer.{WriteOutcome, recordOf, writeOf}
-use Rattle.writer.proofs.Names.{named}
+use Rattle.writer.proofs.Names.{lists-name}
 use Rattle.pairs.specs.declared.halves.Halves.{Halves}
 use Rattle.pairs.specs.Pairs.{noScan, atMost8, padded, noneYet, stored, halvesOf, writeHalves}
 
@@ -69,7 +69,7 @@ too-many snapshot ks es xs cs many = by-cases (recordOf snapshot (lists ks es xs
     by-cases : (o : Option Rec) → recordOf snapshot (lists ks es xs (map lowOf cs) (map highOf cs)) ≡ o → o ≡ none
     by-cases none e = refl
     by-cases (some r) e =
-        let is = named snapshot (lists ks es xs (map lowOf cs) (map highOf cs)) r e in
+        let is = lists-name snapshot (lists ks es xs (map lowOf cs) (map highOf cs)) r e in
         let same : length (map lowOf cs) ≡ length (map lowOf (r .scans)) = ap (λ l. length (l .lows)) (is .lists-are) in
         absurd (omega (arith, length-map cs lowOf, length-map (r .scans) lowOf, same, is .few-scans, many))
 

@@ -11,4 +11,3 @@ pub mod Sizes
 pub mod BytesParse
 pub mod ParseBytes
 pub mod RoundTrip
-pub mod Only

@@ -1,6 +1,6 @@
 -- The round trip on definitions: well-formed bytes are written back the same, and written records read back the same.
 -- Assumes nothing.
-use Prim.Native.Nat.{ℕ, zero, suc, _+_, _≤_, _<_}
+use Prim.Native.Nat.{ℕ, zero, suc, _<_}
 use mathlib.Core.Path.{_≡_, ap, _∙_}
 use mathlib.Core.Logic.{_↔_}
 use mathlib.Core.Option.{some}
@@ -12,7 +12,7 @@ use Rattle.words.specs.Laws.{word-bigEndian, bytes-append, bytes-bigEndian}
 use Rattle.record.specs.declared.point.Point.{Point}
 use Rattle.record.specs.declared.point.Point.the-variants.{Read, Put, Delete}
 use Rattle.record.specs.declared.point.Scan.{Scan}
-use Rattle.record.specs.Record.{Rec, pointBytes, pointsBytes, scanBytes, scansBytes, bodyBytes, bytesOf, Valid}
+use Rattle.record.specs.Record.{Rec, pointBytes, pointsBytes, scanBytes, scansBytes, bodyBytes, bytesOf, Valid, RecordSized}
 use Rattle.record.specs.Parse.{parse}
 use Rattle.record.proofs.Sizes.{body-size, whole-size}
 use Rattle.record.proofs.BytesParse.{body-most, bytes-parse}
@@ -30,16 +30,8 @@ bytesOf-parse bs r y e = let w : Written bs r = parse-bytes bs r y e in (w .vali
 pub parse-is : (bs : List ℕ) (r : Rec) → Bytes bs → (parse bs ≡ some r) ↔ (Valid r × (bs ≡ bytesOf r))
 parse-is bs r y = (λ e. bytesOf-parse bs r y e, λ h. ap parse (h .1) ∙ parse-bytesOf r (h .0))
 
--- "The shortest record has 9 bytes, the longest .. 903 after the length, 905 in all", and the length field says so
-pub record Sized (r : Rec) : Type 0 where
-  pub least : 9 ≤ length (bytesOf r)
-  pub most : length (bytesOf r) ≤ 905
-  pub field-least : 7 ≤ word 2 (bytesOf r) 0
-  pub field-most : word 2 (bytesOf r) 0 ≤ 903
-  pub field : word 2 (bytesOf r) 0 + 2 ≡ length (bytesOf r)
-
 -- every valid record has such a size
-pub valid-size : (r : Rec) → Valid r → Sized r
+pub valid-size : (r : Rec) → Valid r → RecordSized r
 valid-size r v =
     let f : word 2 (bytesOf r) 0 ≡ length (bodyBytes r) = word-bigEndian 2 (length (bodyBytes r)) (bodyBytes r) (omega (arith, body-most r v)) in
     let b = body-size r in

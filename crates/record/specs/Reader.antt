@@ -4,7 +4,7 @@ use Prim.Native.Nat.{ℕ}
 use mathlib.Core.Bool.{Bool, _&&_}
 use mathlib.Core.Option.{Option, none, some}
 use mathlib.Core.List.{List, _++_, map}
-use lib.ListN.{length, drop}
+use lib.ListN.{length, take, drop}
 use lib.Dec.{leb}
 use Rattle.words.specs.Choice.{if_then_else_}
 use Rattle.record.specs.declared.answer.Answer.{Answer}
@@ -59,10 +59,19 @@ filled r l =
     lists (front (map kindOf (r .points)) (l .kinds)) (front (map keyOf (r .points)) (l .keys)) (front (map payloadOf (r .points)) (l .payloads))
     (front (map lowOf (r .scans)) (l .lows)) (front (map highOf (r .scans)) (l .highs))
 
+-- what the reader gives back for a record that it has read (R11): 0, the record's snapshot and both counts
+abbrev pub readingOf : Rec → Reading
+readingOf r = record { answer = committed; snapshot = r .snapshot; points = length (r .points); scans = length (r .scans) }
+
 -- "4, then 8 if a list is too short, both changing nothing, then 0 with the snapshot and both counts"
 unfoldable pub readOf : Option Rec → Lists → ReadOutcome
 readOf none l = readOutcome (readRefused malformed) l
 readOf (some r) l =
     if roomy r l
-    then readOutcome (record { answer = committed; snapshot = r .snapshot; points = length (r .points); scans = length (r .scans) }) (filled r l)
+    then readOutcome (readingOf r) (filled r l)
     else readOutcome (readRefused outputShort) l
+
+-- the points and scans at the fronts of the lists after a reading, as many as it has counted (R11)
+abbrev pub fronts : Reading → Lists → Lists
+fronts q l =
+    lists (take (q .points) (l .kinds)) (take (q .points) (l .keys)) (take (q .points) (l .payloads)) (take (q .scans) (l .lows)) (take (q .scans) (l .highs))

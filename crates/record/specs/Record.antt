@@ -1,9 +1,10 @@
 -- Document 01, "The record": what a record is, what its bytes are, and which rules it keeps.
 -- Assumes nothing: these are definitions.
 use Prim.Native.Nat.{ℕ, _+_, _^_, _≤_, _<_}
+use mathlib.Core.Path.{_≡_}
 use mathlib.Core.List.{List, [], _∷_, _++_}
 use lib.ListN.{length}
-use Rattle.words.specs.Word.{bigEndian}
+use Rattle.words.specs.Word.{bigEndian, word}
 use Rattle.record.specs.declared.point.Point.{Point}
 use Rattle.record.specs.declared.point.Point.the-variants.{Read, Put, Delete}
 use Rattle.record.specs.declared.point.Scan.{Scan}
@@ -85,3 +86,11 @@ pub record Valid (r : Rec) : Type 0 where
   pub few-scans : length (r .scans) ≤ maxScans
   pub rising : PointsRise 0 (r .points)
   pub apart : Apart 0 (r .scans)
+
+-- the size of a record's bytes (R8): 9 to 905 of them, and the length in the first two says 7 to 903, how many follow these two
+pub record RecordSized (r : Rec) : Type 0 where
+  pub least : 9 ≤ length (bytesOf r)
+  pub most : length (bytesOf r) ≤ 905
+  pub field-least : 7 ≤ word 2 (bytesOf r) 0
+  pub field-most : word 2 (bytesOf r) 0 ≤ 903
+  pub field : word 2 (bytesOf r) 0 + 2 ≡ length (bytesOf r)

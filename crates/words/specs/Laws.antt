@@ -5,8 +5,9 @@ use mathlib.Core.Path.{_≡_, refl, sym, ap, _∙_}
 use mathlib.Core.Logic.{_⊎_, inl, inr, ⊎-elim}
 use mathlib.Core.List.{List, [], _∷_, _++_, append-assoc}
 use native.Mathlib.Omega.{arith}
+use native.Mathlib.Decide.{decLt}
 use native.Mathlib.Nat.{add-suc, suc-add, pow-suc, suc-mul, div-div-eq-div-mul, mul-comm}
-use lib.ListN.{length, getD, take, drop, set, length-set, length-append, length-drop, take-append-drop}
+use lib.ListN.{length, getD, take, drop, set, length-set, length-append, length-take, length-drop, take-append-drop, List·getD-eq-default}
 use lib.Seq.{sets, length-sets, getD-set-same, getD-set-other, getD-drop, getD-take, getD-at, take-suc}
 use Rattle.words.specs.Word.{Bytes, word, bigEndian, putWord}
 
@@ -134,6 +135,13 @@ same-bytes k s t i j b d f g e = sym (bigEndian-word k s i b f) ∙ ap (bigEndia
 
 pub bytes-drop : (d : ℕ) (s : List ℕ) → Bytes s → Bytes (drop d s)
 bytes-drop d s b = record { byte = λ i. rw getD-drop (b .byte (d + i)) }
+
+-- the first of some bytes
+pub bytes-take : (n : ℕ) (s : List ℕ) → Bytes s → Bytes (take n s)
+bytes-take n s b = record { byte = λ i. elim (decLt i n) [ yes l ↦ rw (getD-take n s i 0 l) (b .byte i) | no g ↦ past i (omega arith) ] }
+  where
+    past : (i : ℕ) → n ≤ i → getD (take n s) i 0 < 256
+    past i g = rw (List·getD-eq-default (take n s) 0 {n = i} (omega (arith, length-take n s))) (omega arith)
 
 -- lists of n numbers of k bytes that agree in each number are equal
 pub same-words : (k n : ℕ) (s t : List ℕ) → Bytes s → Bytes t → length s ≡ n * k → length t ≡ n * k → ((q : ℕ) → q < n → word k s (q * k) ≡ word k t (q * k)) → s ≡ t

@@ -6,4 +6,3 @@ pub mod SizeLaws
 pub mod StoredBytes
 pub mod WriteLaws
 pub mod RoundTrip
-pub mod Only

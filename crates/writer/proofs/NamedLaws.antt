@@ -81,16 +81,16 @@ point-is low kind key payload p size e =
     (λ d. no-point (simp (a, b, d) at e))
 
 -- keys that rise from low on
-abbrev pub Ordered : ℕ → List Point → Type 0
-Ordered low [] = Unit
-Ordered low (p ∷ ps) = (low ≤ keyOf p) × Ordered (keyOf p + 1) ps
+abbrev pub PointsInOrder : ℕ → List Point → Type 0
+PointsInOrder low [] = Unit
+PointsInOrder low (p ∷ ps) = (low ≤ keyOf p) × PointsInOrder (keyOf p + 1) ps
 
 -- what three lists say of the points that they name
 pub record PointsNamed (low : ℕ) (ks es xs : List ℕ) (at : ℕ) (ps : List Point) (e : ℕ) : Type 0 where
   pub kinds-are : ks ≡ map kindOf ps
   pub keys-are : es ≡ map keyOf ps
   pub payloads-are : xs ≡ map payloadOf ps
-  pub ordered : Ordered low ps
+  pub ordered : PointsInOrder low ps
   pub place : e ≡ at + length (pointsBytes ps)
 
 -- the lists are the points' own
@@ -152,14 +152,14 @@ scan-is floor low high c e =
     subst (λ (y : Scan). ScanIs floor low high y) q (record { low-is = refl; high-is = refl; floor-le = ltb-false _ _ a; low-le = ltb-false _ _ b })
 
 -- scans from a floor on, each above the one before
-abbrev pub Stepped : ℕ → List Scan → Type 0
-Stepped floor [] = Unit
-Stepped floor (c ∷ cs) = (floor ≤ c .low) × (c .low ≤ c .high) × Stepped (c .high + 1) cs
+abbrev pub ScansInOrder : ℕ → List Scan → Type 0
+ScansInOrder floor [] = Unit
+ScansInOrder floor (c ∷ cs) = (floor ≤ c .low) × (c .low ≤ c .high) × ScansInOrder (c .high + 1) cs
 
 pub record ScansNamed (floor : ℕ) (ls hs : List ℕ) (at : ℕ) (cs : List Scan) (e : ℕ) : Type 0 where
   pub lows-are : ls ≡ map lowOf cs
   pub highs-are : hs ≡ map highOf cs
-  pub stepped : Stepped floor cs
+  pub stepped : ScansInOrder floor cs
   pub place : e ≡ at + length (scansBytes cs)
 
 -- the lists are the scans' own

@@ -15,8 +15,8 @@ use Rattle.record.specs.declared.point.Scan.{Scan}
 use Rattle.record.specs.Record.{Rec, keyOf, payloadOf, pointsBytes, PointsRise, Apart, Valid}
 use Rattle.record.specs.Reader.{Lists, lists, highOf}
 use Rattle.record.proofs.Cases.{by-case, and-split, no-some, took-or}
-use Rattle.writer.specs.Writer.{namedPoints, namedScans, recordOf, listsOf}
-use Rattle.writer.proofs.NamedLaws.{Ordered, Stepped, PointsNamed, ScansNamed, points-named, scans-named, points-own, scans-own}
+use Rattle.writer.specs.Writer.{namedPoints, namedScans, recordOf, listsOf, Fitting}
+use Rattle.writer.proofs.NamedLaws.{PointsInOrder, ScansInOrder, PointsNamed, ScansNamed, points-named, scans-named, points-own, scans-own}
 
 -- THE LISTS OF A RECORD NAME IT
 
@@ -34,11 +34,11 @@ recordOf-lists r v =
 -- LISTS THAT NAME A RECORD ARE ITS OWN
 
 -- all that is known of a record that lists name
-pub record Named (snapshot : ℕ) (l : Lists) (r : Rec) : Type 0 where
+pub record ListsName (snapshot : ℕ) (l : Lists) (r : Rec) : Type 0 where
   pub snapshot-is : r .snapshot ≡ snapshot
   pub lists-are : l ≡ listsOf r
-  pub ordered : Ordered 0 (r .points)
-  pub stepped : Stepped 0 (r .scans)
+  pub ordered : PointsInOrder 0 (r .points)
+  pub stepped : ScansInOrder 0 (r .scans)
   pub few-points : length (r .points) ≤ 64
   pub few-scans : length (r .scans) ≤ 8
 
@@ -51,13 +51,13 @@ same-some : (P : Rec → Type 0) (q r : Rec) → some q ≡ some r → P q → P
 same-some P q r e h = let z : q ≡ r = cc in subst P z h
 
 -- from what `recordOf` gives
-pub named : (snapshot : ℕ) (l : Lists) (r : Rec) → recordOf snapshot l ≡ some r → Named snapshot l r
+pub lists-name : (snapshot : ℕ) (l : Lists) (r : Rec) → recordOf snapshot l ≡ some r → ListsName snapshot l r
 unfolding recordOf
-named snapshot l r e =
+lists-name snapshot l r e =
     took-or (namedPoints 0 (l .kinds) (l .keys) (l .payloads) 9) (λ x. no-some (simp x at e)) λ ps at x.
     took-or (namedScans 0 (l .lows) (l .highs) at) (λ y. no-some (simp (x, y) at e)) λ cs end y.
     by-case (leb (length ps) 64 && leb (length cs) 8)
-    (λ v. same-some (Named snapshot l) (record { snapshot = snapshot; points = ps; scans = cs }) r (simp (x, y, v) at e)
+    (λ v. same-some (ListsName snapshot l) (record { snapshot = snapshot; points = ps; scans = cs }) r (simp (x, y, v) at e)
     (let p : PointsNamed 0 (l .kinds) (l .keys) (l .payloads) 9 ps at = points-named (l .kinds) (l .keys) (l .payloads) 0 9 ps at x in
     let s : ScansNamed 0 (l .lows) (l .highs) at cs end = scans-named (l .lows) (l .highs) 0 at cs end y in
     and-split _ _ v λ v1 v2. record {
@@ -72,29 +72,22 @@ named snapshot l r e =
 
 -- lists that name r are r's lists, and the snapshot is r's
 pub lists-recordOf : (snapshot : ℕ) (l : Lists) (r : Rec) → recordOf snapshot l ≡ some r → (r .snapshot ≡ snapshot) × (l ≡ listsOf r)
-lists-recordOf snapshot l r e = let n : Named snapshot l r = named snapshot l r e in (n .snapshot-is, n .lists-are)
+lists-recordOf snapshot l r e = let n : ListsName snapshot l r = lists-name snapshot l r e in (n .snapshot-is, n .lists-are)
 
 -- THE RECORD NAMED IS VALID
 
--- the numbers lent fit their types: u32, u64
-pub record Fitting (snapshot : ℕ) (l : Lists) : Type 0 where
-  pub snapshot-fits : snapshot < 2 ^ 32
-  pub keys-fit : (i : ℕ) → getD (l .keys) i 0 < 2 ^ 32
-  pub payloads-fit : (i : ℕ) → getD (l .payloads) i 0 < 2 ^ 64
-  pub highs-fit : (i : ℕ) → getD (l .highs) i 0 < 2 ^ 32
-
 -- keys in order that fit rise
-rising-of : (ps : List Point) (low : ℕ) → Ordered low ps → ((i : ℕ) → getD (map keyOf ps) i 0 < 2 ^ 32) → ((i : ℕ) → getD (map payloadOf ps) i 0 < 2 ^ 64) → PointsRise low ps
+rising-of : (ps : List Point) (low : ℕ) → PointsInOrder low ps → ((i : ℕ) → getD (map keyOf ps) i 0 < 2 ^ 32) → ((i : ℕ) → getD (map payloadOf ps) i 0 < 2 ^ 64) → PointsRise low ps
 rising-of [] low o f g = tt
 rising-of (p ∷ ps) low o f g = (o .0, f 0, g 0, rising-of ps (keyOf p + 1) (o .1) (λ i. f (suc i)) (λ i. g (suc i)))
 
 -- scans in order that fit lie apart
-apart-of : (cs : List Scan) (low : ℕ) → Stepped low cs → ((i : ℕ) → getD (map highOf cs) i 0 < 2 ^ 32) → Apart low cs
+apart-of : (cs : List Scan) (low : ℕ) → ScansInOrder low cs → ((i : ℕ) → getD (map highOf cs) i 0 < 2 ^ 32) → Apart low cs
 apart-of [] low o f = tt
 apart-of (c ∷ cs) low o f = (o .0, o .1, f 0, apart-of cs (c .high + 1) (o .2) (λ i. f (suc i)))
 
 -- together: a valid record
-valid-own : (snapshot : ℕ) (r : Rec) → Fitting snapshot (listsOf r) → r .snapshot ≡ snapshot → Ordered 0 (r .points) → Stepped 0 (r .scans)
+valid-own : (snapshot : ℕ) (r : Rec) → Fitting snapshot (listsOf r) → r .snapshot ≡ snapshot → PointsInOrder 0 (r .points) → ScansInOrder 0 (r .scans)
     → length (r .points) ≤ 64 → length (r .scans) ≤ 8 → Valid r
 valid-own snapshot r f e o s few-points few-scans =
     record {
@@ -108,7 +101,7 @@ valid-own snapshot r f e o s few-points few-scans =
 -- lists name only valid records
 pub recordOf-valid : (snapshot : ℕ) (l : Lists) (r : Rec) → Fitting snapshot l → recordOf snapshot l ≡ some r → Valid r
 recordOf-valid snapshot l r f e =
-    let n : Named snapshot l r = named snapshot l r e in
+    let n : ListsName snapshot l r = lists-name snapshot l r e in
     valid-own snapshot r (subst (λ (m : Lists). Fitting snapshot m) (n .lists-are) f) (n .snapshot-is) (n .ordered) (n .stepped) (n .few-points) (n .few-scans)
 
 -- lists name r exactly if r is valid, and the snapshot and the lists are r's

@@ -15,28 +15,15 @@ use Rattle.record.specs.declared.reader.Reading.{Reading}
 use Rattle.record.specs.Answer.{committed}
 use Rattle.record.specs.Record.{Rec, kindOf, keyOf, payloadOf, bytesOf, Valid}
 use Rattle.record.specs.Parse.{parse}
-use Rattle.record.specs.Reader.{Lists, lists, lowOf, highOf, front, roomy, filled, readOf}
+use Rattle.record.specs.Reader.{Lists, lowOf, highOf, front, roomy, filled, readingOf, readOf, fronts}
 use Rattle.record.specs.Reader as Reader
 use Rattle.record.proofs.Cases.{by-case}
 use Rattle.record.proofs.RoundTrip.{parse-bytesOf, bytesOf-parse}
 use Rattle.writer.specs.declared.Written.{Written}
-use Rattle.writer.specs.Writer.{recordOf, listsOf, WriteOutcome, writeOutcome, writeOf}
+use Rattle.writer.specs.Writer.{recordOf, listsOf, WriteOutcome, writeOutcome, writtenOf, writeOf}
 use Rattle.writer.proofs.Names.{recordOf-lists, lists-same}
 
 -- WHAT THE PROMISES GIVE FOR A RECORD
-
--- what the reader gives back for a record that it has read
-abbrev pub readingOf : Rec → Reading
-readingOf r = record { answer = committed; snapshot = r .snapshot; points = length (r .points); scans = length (r .scans) }
-
--- what the writer gives back for bytes that it has written
-abbrev pub writtenOf : List ℕ → Written
-writtenOf bytes = record { answer = committed; size = length bytes }
-
--- the points and scans that stand at the fronts of the lists after a reading
-abbrev pub fronts : Reading → Lists → Lists
-fronts q l =
-    lists (take (q .points) (l .kinds)) (take (q .points) (l .keys)) (take (q .points) (l .payloads)) (take (q .scans) (l .lows)) (take (q .scans) (l .highs))
 
 -- lists with room are filled
 read-some : (r : Rec) (l : Lists) → roomy r l ≡ true → readOf (some r) l ≡ Reader.readOutcome (readingOf r) (filled r l)

@@ -19,7 +19,7 @@ use Rattle.record.proofs.Cases.{by-case, took-or, bad-end, took-at}
 use Rattle.record.proofs.Sizes.{points-size-most, body-size, whole-size}
 use Rattle.writer.specs.Writer.{namedPoints, namedScans, recordOf, sizeEnd}
 use Rattle.writer.proofs.NamedLaws.{PointsNamed, ScansNamed, points-named, scans-named}
-use Rattle.writer.proofs.Names.{Named, named}
+use Rattle.writer.proofs.Names.{ListsName, lists-name}
 
 -- lists that can name no record
 refuse : (x : Option Rec) → ((r : Rec) → x ≡ some r → ⊥) → End.Bad ≡ sizeEnd x
@@ -35,7 +35,7 @@ pub record Lengths (ks es xs ls hs : List ℕ) (r : Rec) : Type 0 where
   pub highs-long : length hs ≡ length (r .scans)
 
 -- from what the lists name
-pub lengths : (snapshot : ℕ) (ks es xs ls hs : List ℕ) (r : Rec) → Named snapshot (lists ks es xs ls hs) r → Lengths ks es xs ls hs r
+pub lengths : (snapshot : ℕ) (ks es xs ls hs : List ℕ) (r : Rec) → ListsName snapshot (lists ks es xs ls hs) r → Lengths ks es xs ls hs r
 lengths snapshot ks es xs ls hs r n =
     record {
       kinds-long = ap (λ (l : Lists). length (l .kinds)) (n .lists-are) ∙ length-map (r .points) kindOf;
@@ -64,31 +64,31 @@ module _ (ks es xs ls hs : List ℕ) where
   pub size-keys : (length es ≡ length ks → ⊥) → End.Bad ≡ sizeEnd (recordOf 0 (lists ks es xs ls hs))
   size-keys h =
       refuse (recordOf 0 (lists ks es xs ls hs)) λ r e.
-      let n = lengths 0 ks es xs ls hs r (named 0 (lists ks es xs ls hs) r e) in h (n .keys-long ∙ sym (n .kinds-long))
+      let n = lengths 0 ks es xs ls hs r (lists-name 0 (lists ks es xs ls hs) r e) in h (n .keys-long ∙ sym (n .kinds-long))
 
   -- not as many payloads as kinds
   pub size-payloads : (length xs ≡ length ks → ⊥) → End.Bad ≡ sizeEnd (recordOf 0 (lists ks es xs ls hs))
   size-payloads h =
       refuse (recordOf 0 (lists ks es xs ls hs)) λ r e.
-      let n = lengths 0 ks es xs ls hs r (named 0 (lists ks es xs ls hs) r e) in h (n .payloads-long ∙ sym (n .kinds-long))
+      let n = lengths 0 ks es xs ls hs r (lists-name 0 (lists ks es xs ls hs) r e) in h (n .payloads-long ∙ sym (n .kinds-long))
 
   -- not as many highs as lows
   pub size-highs : (length hs ≡ length ls → ⊥) → End.Bad ≡ sizeEnd (recordOf 0 (lists ks es xs ls hs))
   size-highs h =
       refuse (recordOf 0 (lists ks es xs ls hs)) λ r e.
-      let n = lengths 0 ks es xs ls hs r (named 0 (lists ks es xs ls hs) r e) in h (n .highs-long ∙ sym (n .lows-long))
+      let n = lengths 0 ks es xs ls hs r (lists-name 0 (lists ks es xs ls hs) r e) in h (n .highs-long ∙ sym (n .lows-long))
 
   -- more than 64 points
   pub size-points : 64 < length ks → End.Bad ≡ sizeEnd (recordOf 0 (lists ks es xs ls hs))
   size-points h =
       refuse (recordOf 0 (lists ks es xs ls hs)) λ r e.
-      let n = named 0 (lists ks es xs ls hs) r e in omega (arith, n .few-points, (lengths 0 ks es xs ls hs r n) .kinds-long)
+      let n = lists-name 0 (lists ks es xs ls hs) r e in omega (arith, n .few-points, (lengths 0 ks es xs ls hs r n) .kinds-long)
 
   -- more than 8 scans
   pub size-scans : 8 < length ls → End.Bad ≡ sizeEnd (recordOf 0 (lists ks es xs ls hs))
   size-scans h =
       refuse (recordOf 0 (lists ks es xs ls hs)) λ r e.
-      let n = named 0 (lists ks es xs ls hs) r e in omega (arith, n .few-scans, (lengths 0 ks es xs ls hs r n) .lows-long)
+      let n = lists-name 0 (lists ks es xs ls hs) r e in omega (arith, n .few-scans, (lengths 0 ks es xs ls hs r n) .lows-long)
 
   module _ (rp : End) (is-p : rp ≡ endOf (namedPoints 0 ks es xs 9)) where
     -- points that break a rule

@@ -19,7 +19,7 @@ use Rattle.writer.specs.declared.Written.{Written}
 use Rattle.writer.specs.Writer.{recordOf, writeOutcome, writeRefused, writeOf, sizeEnd}
 use Rattle.writer.specs.Stored.{headBytes, storedPoints, storedScans}
 use Rattle.writer.proofs.StoredBytes.{points-bytes-own, scans-bytes-own, stored-whole}
-use Rattle.writer.proofs.Names.{Named, named}
+use Rattle.writer.proofs.Names.{ListsName, lists-name}
 use Rattle.writer.proofs.SizeLaws.{Lengths, lengths, any-snapshot}
 
 -- WHAT THE SIZE SAYS
@@ -55,8 +55,8 @@ module _ (ks es xs ls hs : List ℕ) (size : ℕ) (e : End) (at-size : e ≡ End
   size-is = found .2
 
   -- its lists are the lists lent
-  names : Named snapshot (lists ks es xs ls hs) r
-  names = named snapshot (lists ks es xs ls hs) r record-is
+  names : ListsName snapshot (lists ks es xs ls hs) r
+  names = lists-name snapshot (lists ks es xs ls hs) r record-is
 
   -- and so are their lengths
   long : Lengths ks es xs ls hs r
@@ -177,7 +177,7 @@ module _ (ks es xs ls hs : List ℕ) (size : ℕ) (e : End) (at-size : e ≡ End
   whole = r ks es xs ls hs size e at-size is snapshot
 
   -- its lists are the lists lent
-  named-whole : Named snapshot (lists ks es xs ls hs) whole
+  named-whole : ListsName snapshot (lists ks es xs ls hs) whole
   unfolding whole
   named-whole = names ks es xs ls hs size e at-size is snapshot
 

@@ -1,10 +1,10 @@
 -- Document 01, "The record": which record lent lists name, and what the writer answers and leaves in its output.
 -- Assumes nothing: these are definitions.
-use Prim.Native.Nat.{ℕ, _+_}
+use Prim.Native.Nat.{ℕ, _+_, _^_, _<_}
 use mathlib.Core.Bool.{_&&_}
 use mathlib.Core.Option.{Option, none, some}
 use mathlib.Core.List.{List, [], _∷_, map}
-use lib.ListN.{length}
+use lib.ListN.{length, getD}
 use lib.Dec.{leb, ltb, eqb}
 use Rattle.words.specs.Choice.{if_then_else_}
 use Rattle.record.specs.declared.answer.Answer.{Answer}
@@ -67,6 +67,13 @@ abbrev pub listsOf : Rec → Lists
 listsOf r =
     lists (map kindOf (r .points)) (map keyOf (r .points)) (map payloadOf (r .points)) (map lowOf (r .scans)) (map highOf (r .scans))
 
+-- the numbers lent fit their types (R2): the snapshot, keys and highs have 32 bits, the payloads 64
+pub record Fitting (snapshot : ℕ) (l : Lists) : Type 0 where
+  pub snapshot-fits : snapshot < 2 ^ 32
+  pub keys-fit : (i : ℕ) → getD (l .keys) i 0 < 2 ^ 32
+  pub payloads-fit : (i : ℕ) → getD (l .payloads) i 0 < 2 ^ 64
+  pub highs-fit : (i : ℕ) → getD (l .highs) i 0 < 2 ^ 32
+
 -- what a call gives back and what it leaves in the output
 pub record WriteOutcome : Type 0 where
   pub written : Written
@@ -80,12 +87,16 @@ writeOutcome w l = record { written = w; left = l }
 abbrev pub writeRefused : Answer → Written
 writeRefused a = record { answer = a; size = 0 }
 
+-- what the writer gives back for bytes that it has written (R10): 0 and their number
+abbrev pub writtenOf : List ℕ → Written
+writtenOf bytes = record { answer = committed; size = length bytes }
+
 -- "writeRefused with 4, then short output with 8; both leave the output untouched. On 0 the record stands at the front of the output, the rest is as before"
 unfoldable pub writeOf : Option Rec → List ℕ → WriteOutcome
 writeOf none output = writeOutcome (writeRefused malformed) output
 writeOf (some r) output =
     if leb (length (bytesOf r)) (length output)
-    then writeOutcome (record { answer = committed; size = length (bytesOf r) }) (front (bytesOf r) output)
+    then writeOutcome (writtenOf (bytesOf r)) (front (bytesOf r) output)
     else writeOutcome (writeRefused outputShort) output
 
 -- the size of the record named, if there is one: what the first pass over the lists finds

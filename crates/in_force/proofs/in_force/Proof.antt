@@ -1,4 +1,5 @@
 -- `force::in_force` meets its promise: one law for each return (Cases.antt).
+use Rattle.log.proofs.Told.{cut-case}
 use Rattle.in_force.proofs.Cases.{after-ahead, after-other, after-zero-none, after-zero, ends-inside}
 use borrow.Author.Needs.{needs}
 use Rattle.in_force.proofs.in_force.Statement.{statement}
@@ -35,7 +36,7 @@ part-result-end-2 : tie.Need-part-result-end-2
 part-result-end-2 c = search needs
 
 returns-3 : tie.Need-returns-3
-returns-3 c = after-zero-none _ _ _ (c .before .before .before .before .before .if1 .left) (c .before .before .before .if2 .left) _ (c .before .before .cut .ensures .case) _ (c .before .match .keys2)
+returns-3 c = after-zero-none _ _ _ (c .before .before .before .before .before .if1 .left) (c .before .before .before .if2 .left) _ (cut-case _ _ _ (c .before .before .cut .ensures)) _ (c .before .match .keys2)
 
 sub-result-3 : tie.Need-sub-result-3
 sub-result-3 c = search needs
@@ -47,7 +48,7 @@ part-result-end-3 : tie.Need-part-result-end-3
 part-result-end-3 c = search (ends-inside, needs)
 
 returns-4 : tie.Need-returns-4
-returns-4 c = after-zero _ _ _ (c .before .before .before .before .before .before .before .if1 .left) (c .before .before .before .before .before .if2 .left) _ (c .before .before .before .before .cut .ensures .case) _ _ (c .before .before .next .given .1)
+returns-4 c = after-zero _ _ _ (c .before .before .before .before .before .before .before .if1 .left) (c .before .before .before .before .before .if2 .left) _ (cut-case _ _ _ (c .before .before .before .before .cut .ensures)) _ _ (c .before .before .next .given .1)
 
 pub in-force-spec : {M : Type 1} → statement M
 in-force-spec =

@@ -48,6 +48,7 @@ use denote.Triple.Spec.{Meets, tripleOf}
 use denote.Triple.Table.{entered, cited}
 use denote.Triple.Walked.{says, Stays, stay-ref, walkOf, goes-ref, Walks, ends-at, walked, walk-meets}
 use Rattle.log.specs.Log.{CutIs, HandedOut, placeAfter}
+use Rattle.log.proofs.Told.{cut-case}
 use Rattle.log.specs.declared.found.Cut.{Cut}
 use Rattle.log.proofs.found.Cut as S
 use Rattle.log.proofs.found.Cut.Laws as S′
@@ -185,7 +186,7 @@ module _ {M : Type 1} (𝓤 : URA M) (H : Heap 𝓤) (A : Atoms 𝓤) (W : Given
 
   -- the promise, from those of the three callees
   moved : (r : Cut) (p : RefT (List ℕ)) (n : ℕ) → CutIs (now (h .log)) (h .place) r → HandedOut (h .log) (h .place) p → n ≡ placeAfter r (h .place) → Stepped h (h′ n) (given-back r p)
-  moved r p n is out e = record { found = is; part = out; log = refl; place = e ∙ ap (λ (c : Cut). placeAfter c (h .place)) (is .case) }
+  moved r p n is out e = record { found = is; part = out; log = refl; place = e ∙ ap (λ (c : Cut). placeAfter c (h .place)) (cut-case (now (h .log)) (h .place) r is) }
 
   exits : (r : Cut) (p : RefT (List ℕ)) (n : ℕ) (u w : Val) → Stepped h (h′ n) (given-back r p)
       → ent 𝓤 (⋆ 𝓤 H A (‵ (fobs γ (B κ′ .coded .code (h′ n))) ∷ ‵ (fbor κ (Body (mem (B κ′)) b o γ)) ∷ ‵ (flft κ q) ∷ (‵ (flft κ′ q′) ⊛ ‵ ftrue) ∷ ‵ (Q.the-row (α κ′) .own (given-back r p) (mach u w ∷ [])) ∷ [])) (Post (mach u w))
