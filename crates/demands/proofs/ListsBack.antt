@@ -21,8 +21,10 @@ use Rattle.record.specs.Reader as Reader
 use Rattle.record.proofs.Cases.{by-case}
 use Rattle.writer.specs.declared.Written.{Written}
 use Rattle.writer.specs.Writer.{recordOf, listsOf, WriteOutcome, writeOutcome, writeOf}
-use Rattle.writer.proofs.Names.{Fitting, recordOf-lists, recordOf-valid, lists-recordOf}
-use Rattle.writer.proofs.RoundTrip.{readingOf, write-read}
+use Rattle.writer.specs.Writer.{Fitting}
+use Rattle.writer.proofs.Names.{recordOf-lists, recordOf-valid, lists-recordOf}
+use Rattle.record.specs.Reader.{readingOf}
+use Rattle.writer.proofs.RoundTrip.{write-read}
 use Rattle.demands.specs.ListsBack.{HasRoom, ReadBack}
 
 -- the writer answers 0 only where the lists name a record and the output has room for it

@@ -1,1 +1,4 @@
 mod PairLaws
+mod PairReadLaws
+pub mod Only
+pub mod Filled

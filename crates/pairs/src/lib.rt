@@ -1,10 +1,12 @@
-// THE RECORD PART, the writer's entry for scans that are lent as a list of low and high pairs: the pairs are split into lows and
-// highs, and the writer's core, on two lists of numbers, does the rest.
+// THE RECORD PART, the entries for scans that are lent as a list of low and high pairs. To write, the pairs are split into lows and
+// highs, and the writer's core, on two lists of numbers, does the rest; to read, see `reader`.
 mod halves;
+mod reader;
 
 use halves::Halves;
 use halves::halves_of;
 use halves::least;
+pub use reader::read_pairs;
 use record::Answer;
 use record::Scan;
 use record::limits::MAX_SCANS;
