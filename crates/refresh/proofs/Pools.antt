@@ -1,4 +1,4 @@
--- What the promise of `refresh` says of a fit pool, in document 01's words: m is the pool, A what it is the image of.
+-- What the promise of `refresh` says of a fit pool, in R38's words: m is the pool, A what it is the image of.
 -- Assumes nothing.
 use Prim.Native.Nat.{ℕ}
 use mathlib.Core.Path.{_≡_, ap, _∙_}

@@ -1,4 +1,4 @@
--- Document 01, "Refresh": what it answers and what it leaves in the output, by the state that the pool means. Order 7, 4, 5, 2, 1, 8, 0.
+-- Refresh (R38), over bytes: what it answers and what it leaves in the output, by the state that the pool means. Order 7, 4, 5, 2, 1, 8, 0.
 -- Assumes nothing: these are definitions.
 use Prim.Native.Nat.{ℕ}
 use mathlib.Core.Path.{_≡_}
@@ -26,7 +26,7 @@ pub record RefreshOutcome : Type 0 where
 abbrev pub refreshOutcome : Answer → List ℕ → RefreshOutcome
 refreshOutcome a output = record { answer = a; output = output }
 
--- a refusal leaves the output untouched; then 8, "the room needed is the record's own size"; on 0 the record is the output's front
+-- a refusal leaves the output untouched; then 8 if the output is shorter than the record; on 0 the record is the output's front
 unfoldable pub leftBy : Refreshed → List ℕ → RefreshOutcome
 leftBy (refused v) output = refreshOutcome (verdictAnswer v) output
 leftBy (done r) output =

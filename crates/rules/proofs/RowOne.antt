@@ -86,7 +86,7 @@ unfolding writtenIn
 written-of s p f {C} {c} m a b t =
     any-of (between s p f) m (and-of (hits s f c) (leb (c .position) p) (hits-of s f c a t) (le→leb (c .position) p b))
 
--- a state that holds the committed writes decides row 1 as the paper has it
+-- a state that holds the committed writes decides row 1 as R25 has it
 pub holds-agree : {S : State} {C : List Entry} → HoldsWrites S C → (s : ℕ) (f : List Scan) → S .p ≤ s + S .Z → any (hits s f) (S .kept) ≡ writtenIn s (S .p) f C
 holds-agree {S} {C} h s f near = same (any (hits s f) (S .kept)) (writtenIn s (S .p) f C) to from
   where

@@ -41,7 +41,7 @@ lastWrite k o (e ∷ es) = lastWrite k (if eqb (e .key) k then some e else o) es
 
 -- DEMAND 3
 
--- s, then the stops, then p, "in log order"
+-- s, then the stops, then p, in log order (R40)
 abbrev pub InOrder : ℕ → List ℕ → ℕ → Type 0
 InOrder s [] p = s ≤ p
 InOrder s (q ∷ qs) p = (s ≤ q) × InOrder q qs p

@@ -16,7 +16,7 @@ use Rattle.rules.specs.State.{Entry}
 abbrev pub named : Point → Scan
 named q = record { low = keyOf q; high = keyOf q }
 
--- which entries of a record count for conflict: "some key named by any point or covered by a scan"
+-- R21: the key of each point, and every key that a scan covers
 unfoldable pub reach : Rec → List Scan
 reach r = map named (r .points) ++ r .scans
 
@@ -28,8 +28,8 @@ lies from to c = ltb (c .low) to && leb from (c .high)
 unfoldable pub meets : List Scan → ℕ → ℕ → Bool
 meets f from to = any (lies from to) f
 
--- which entries of a record are written, at position v: puts and deletes, "anything that is not a put or a delete is passed over";
--- "A delete is a write whether or not the key was there"
+-- R22 and R28: what a record writes at position v. A put stores its payload, a delete a tombstone, whether or not there was anything under
+-- the key; anything else is passed over
 abbrev pub writesOf : ℕ → List Point → List Entry
 writesOf v [] = []
 writesOf v (Read k ∷ ps) = writesOf v ps

@@ -60,6 +60,6 @@ commits S (m ∷ ms) = wrote (S .p + 1) (pointsOf m) (verdict S m) ++ commits (n
 abbrev pub between : ℕ → ℕ → List Scan → Entry → Bool
 between s p f e = hits s f e && leb (e .position) p
 
--- row 1: "some key named by any point or covered by a scan was written by a committed record at s + 1 to p"
+-- R25: some key named or scanned is among these writes at s + 1 to p
 unfoldable pub writtenIn : ℕ → ℕ → List Scan → List Entry → Bool
 writtenIn s p f es = any (between s p f) es

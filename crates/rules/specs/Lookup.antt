@@ -1,4 +1,4 @@
--- Document 01: "Lookup answers 7, absent (never written, or a tombstone), or the payload and write position." (7 concerns bytes.)
+-- Lookup (R31), over states. (7 concerns bytes.)
 -- Assumes nothing: these are definitions.
 use Prim.Native.Nat.{ℕ}
 use mathlib.Core.List.{List, [], _∷_}

@@ -1,4 +1,4 @@
--- Document 01, "The state".
+-- The state (R17).
 -- Assumes nothing: these are definitions.
 use Prim.Native.Nat.{ℕ, _+_, _^_, _≤_, _<_}
 use mathlib.Core.Bool.{Bool, true, false}
@@ -16,14 +16,14 @@ pub record Entry : Type 0 where
 abbrev pub keyIn : Entry → ℕ
 keyIn e = e .key
 
--- "For position p: limits N .. and Z .., and for each of at most N kept keys" its entry, in rising order of the keys
+-- the two limits, the position of the last record, and the entries of the kept keys, which rise by key
 pub record State : Type 0 where
   pub N : ℕ
   pub Z : ℕ
   pub p : ℕ
   pub kept : List Entry
 
--- "A new pool has p = 0 and no keys"
+-- the state before the first record
 abbrev pub fresh : ℕ → ℕ → State
 fresh N Z = record { N = N; Z = Z; p = 0; kept = [] }
 
@@ -46,8 +46,8 @@ abbrev pub Fits : Option ℕ → Type 0
 Fits none = Unit
 Fits (some x) = x < 2 ^ 64
 
--- what "The state" asks: "limits N (1 to 65,536) and Z (1 to 4,096)", "at most N kept keys", 32-bit keys, each once,
--- "the position of its last committed write, 1 to p"
+-- R2 and R17: the limits are in range, no position is past the last, at most N keys are kept, each once and of 32 bits, written at 1 to p,
+-- with payloads of 64 bits
 pub record Lawful (S : State) : Type 0 where
   pub limit-N : (1 ≤ S .N) × (S .N ≤ 65536)
   pub limit-Z : (1 ≤ S .Z) × (S .Z ≤ 4096)

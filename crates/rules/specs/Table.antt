@@ -1,4 +1,4 @@
--- Document 01, "A log to check by", and its two whole records: they are rows 4 and 3.
+-- The log to check by (R44): eleven rows, with their bytes.
 -- Assumes nothing: these are definitions.
 use Prim.Native.Nat.{ℕ, _+_}
 use mathlib.Core.Path.{_≡_}
@@ -28,11 +28,11 @@ pub record Row : Type 0 where
 abbrev pub row : ℕ → ℕ → List Point → List Scan → List ℕ → Answer → ℕ → Row
 row v s ps cs bytes a looks = record { v = v; rec = record { snapshot = s; points = ps; scans = cs }; bytes = bytes; answer = a; looks = looks }
 
--- "scan 11 to 19"
+-- a scan, low and high
 abbrev pub scan : ℕ → ℕ → Scan
 scan low high = record { low = low; high = high }
 
--- "N = 3, Z = 4"
+-- the eleven rows, for N = 3 and Z = 4
 unfoldable pub rows : List Row
 rows =
     row 1 0 (Put 10 100 ∷ Put 20 200 ∷ []) []
@@ -75,7 +75,7 @@ pub record Line : Type 0 where
   pub answer : Answer
   pub looks : ℕ
 
--- "The program prints the columns v, answer and looks"
+-- the three columns that the program prints (R41)
 abbrev pub lineOf : Row → Line
 lineOf x = record { v = x .v; answer = x .answer; looks = x .looks }
 
@@ -99,9 +99,9 @@ pub record Table : Type 0 where
   pub written : map bytesOf (map recOf rows) ≡ map bytesIn rows
   pub read : map parse (map bytesIn rows) ≡ map some (map recOf rows)
   pub melded : run (fresh 3 4) (map bytesIn rows) ≡ map lineOf rows
-  -- "At the end 10, 30 and 40 are kept"
+  -- afterwards 10, 30 and 40 are kept
   pub kept-keys : map keyIn (after (fresh 3 4) (map parse (map bytesIn rows)) .kept) ≡ 10 ∷ 30 ∷ 40 ∷ []
-  -- "Two whole records: snapshot 1, read 30", "Snapshot 1, put 30 = 300, scan 11 to 19"
+  -- two records byte by byte: snapshot 1 with read 30, and snapshot 1 with put 30 = 300 and scan 11 to 19
   pub first : bytesOf (record { snapshot = 1; points = Read 30 ∷ []; scans = [] })
       ≡ 0x00 ∷ 0x0C ∷ 0x01 ∷ 0x00 ∷ 0x00 ∷ 0x00 ∷ 0x01 ∷ 0x01 ∷ 0x00 ∷ 0x01 ∷ 0x00 ∷ 0x00 ∷ 0x00 ∷ 0x1E ∷ []
   pub second : bytesOf (record { snapshot = 1; points = Put 30 300 ∷ []; scans = scan 11 19 ∷ [] })

@@ -1,4 +1,4 @@
--- Document 01, "The tree" and "Looks".
+-- The tree of a state, the search for a conflict in it, and the looks (R32 to R36).
 -- Assumes nothing: these are definitions.
 use Prim.Native.Nat.{ℕ, zero, suc, _+_, _^_, _≤_, max, min}
 use mathlib.Core.Path.{_≡_}
@@ -14,7 +14,7 @@ use Rattle.rules.specs.State.{Entry, State, isLive}
 use Rattle.rules.specs.Footprint.{reach, meets}
 use Rattle.rules.specs.Verdict.{Verdict, committed, conflict, tooOld, noRoom, malformed, ahead, positionsUsedUp, verdict}
 
--- "payloads are in leaves only"; node h low l r splits at bit h − 1 and covers low .. low + 2 ^ h − 1
+-- a leaf holds an entry; node h low l r splits at bit h − 1 and covers low .. low + 2 ^ h − 1
 pub data Tree : Type 0 where
   empty : Tree
   leaf : Entry → Tree
@@ -38,7 +38,7 @@ below middle e = ltb (e .key) middle
 abbrev pub from : ℕ → Entry → Bool
 from middle e = leb middle (e .key)
 
--- "inner nodes stand exactly where kept keys first differ, bit 31 down; keys with that bit 0 are on the left":
+-- R32: an inner node stands exactly where the keys below it first differ, from bit 31 down, those with that bit 0 on its left:
 -- the tree of entries whose keys lie in low .. low + 2 ^ h − 1. A state's tree is treeOf 32 0 of what is kept
 unfoldable pub treeOf : ℕ → ℕ → List Entry → Tree
 treeOf zero low [] = empty
@@ -57,7 +57,7 @@ entries empty = []
 entries (leaf e) = e ∷ []
 entries (node h low l r) = entries l ++ entries r
 
--- "A node's newest is the largest write position in its subtree"
+-- R34: the largest write position at or below a node
 unfoldable pub newest : Tree → ℕ
 newest empty = 0
 newest (leaf e) = e .position
@@ -73,8 +73,7 @@ oldest empty = noTombstone
 oldest (leaf e) = if isLive (e .payload) then noTombstone else e .position
 oldest (node h low l r) = min (oldest l) (oldest r)
 
--- the first number that a node covers: "A leaf covers its key. An inner node covers every 32-bit number that shares its
--- keys' common leading bits"
+-- R33: the first number that a node covers. A leaf covers its key, an inner node every number with the leading bits that all keys below share
 abbrev pub first : Tree → ℕ
 first empty = 0
 first (leaf e) = e .key
@@ -93,25 +92,25 @@ pub record Walked : Type 0 where
   pub found : Bool
   pub looks : ℕ
 
--- "Stop there if its newest is ≤ s or nothing the record names or scans lies in what it covers": otherwise go on
+-- R35: go on at a node, unless its newest is at most s or nothing that is named or scanned lies in what it covers
 abbrev pub goesOn : ℕ → List Scan → Tree → Bool
 goesOn s f t = ltb s (newest t) && meets f (first t) (past t)
 
--- "Looking at a node counts 1"
+-- a look that stops
 abbrev pub stop : Walked
 stop = record { found = false; looks = 1 }
 
--- "Otherwise look at the left child, then, if no conflict was found there, the right"
+-- the left child, and then, if no conflict was found there, the right
 abbrev pub descend : Walked → Walked → Walked
 descend l r = record { found = l .found || r .found; looks = if l .found then 1 + l .looks else 1 + l .looks + r .looks }
 
--- "A leaf that isn't stopped at is the conflict, and the search ends"
+-- R35: each node looked at counts one look, and a leaf that was not stopped at is the conflict
 unfoldable pub walk : ℕ → List Scan → Tree → Walked
 walk s f empty = record { found = false; looks = 0 }
 walk s f (leaf e) = record { found = goesOn s f (leaf e); looks = 1 }
 walk s f (node h low l r) = if goesOn s f (node h low l r) then descend (walk s f l) (walk s f r) else stop
 
--- "The conflict search starts at the root"
+-- the search starts at the root
 abbrev pub walkOf : State → Option Rec → Walked
 walkOf S none = record { found = false; looks = 0 }
 walkOf S (some r) = walk (r .snapshot) (reach r) (treeOf 32 0 (S .kept))
