@@ -25,7 +25,7 @@ use Rattle.rules.proofs.Tests.{test, le-or-lt}
 use Rattle.rules.proofs.Near.{verdict-last}
 use Rattle.pool.specs.Image.{Arrangement, Image, Fit, stateOf}
 use Rattle.fit.proofs.Decided.{fit-or-not}
-use Rattle.drop.specs.Drop.{movedOn}
+use Rattle.advance.specs.Moved.{movedOn}
 use Rattle.meld.specs.declared.melding.Melded.{Melded}
 use Rattle.meld.specs.After.{afterIn, leftIn}
 use Rattle.meld.specs.Melds.{Melds}

@@ -23,7 +23,7 @@ no-looks : (S : State) → looksOf S none ≡ 0
 unfolding looksOf
 no-looks S = go (verdict S none)
   where
-    go : (v : Verdict) → looksFor S none v ≡ 0
+    go : (v : Verdict) → looksFor 0 v ≡ 0
     go committed = refl
     go conflict = refl
     go tooOld = refl

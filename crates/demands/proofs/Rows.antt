@@ -9,9 +9,9 @@ use lib.Dec.{T}
 use Rattle.record.specs.declared.answer.Answer.{Answer}
 use Rattle.record.specs.Record.{Rec}
 use Rattle.rules.specs.State.{State, lastPosition}
-use Rattle.rules.specs.Verdict.{Verdict, committed, conflict, tooOld, noRoom, malformed, ahead, positionsUsedUp, verdictAnswer, conflicts, count, judge, verdict}
+use Rattle.rules.specs.Verdict.{Verdict, committed, conflict, tooOld, noRoom, malformed, ahead, positionsUsedUp, verdictAnswer, conflicts, refusalOr, count, judge, verdict}
 use Rattle.rules.proofs.Tests.{is-true, is-false, yes-lt, no-lt, no-le}
-use Rattle.rules.proofs.Near.{room, verdict-near}
+use Rattle.rules.proofs.Near.{verdict-near}
 
 -- BY ITS NUMBER
 
@@ -48,12 +48,12 @@ verdict-malformed S l = rw (no-le {a = lastPosition} {b = S .p} l)
 module _ (S : State) (r : Rec) (left : S .p < lastPosition) where
   -- row 5
   pub verdict-ahead : S .p < r .snapshot → verdict S (some r) ≡ ahead
-  unfolding verdict judge
+  unfolding verdict judge refusalOr
   verdict-ahead a = rw (no-le {a = lastPosition} {b = S .p} left, yes-lt {a = S .p} {b = r .snapshot} a)
 
   -- row 2
   pub verdict-too-old : r .snapshot ≤ S .p → S .Z < S .p - r .snapshot → verdict S (some r) ≡ tooOld
-  unfolding verdict judge
+  unfolding verdict judge refusalOr
   verdict-too-old a o = rw (no-le {a = lastPosition} {b = S .p} left, no-lt {a = S .p} {b = r .snapshot} a, yes-lt {a = S .Z} {b = S .p - r .snapshot} o)
 
   -- rows 1, 3 and 0
@@ -65,9 +65,7 @@ module _ (S : State) (r : Rec) (left : S .p < lastPosition) where
     verdict-conflict c = verdict-near S r low near left ∙ rw (is-true (conflicts S r) c)
 
     pub verdict-no-room : T (not (conflicts S r)) → S .N < count S (r .points) → verdict S (some r) ≡ noRoom
-    unfolding room
     verdict-no-room c k = verdict-near S r low near left ∙ rw (is-false (conflicts S r) c, yes-lt {a = S .N} {b = count S (r .points)} k)
 
     pub verdict-committed : T (not (conflicts S r)) → count S (r .points) ≤ S .N → verdict S (some r) ≡ committed
-    unfolding room
     verdict-committed c k = verdict-near S r low near left ∙ rw (is-false (conflicts S r) c, no-lt {a = S .N} {b = count S (r .points)} k)

@@ -8,12 +8,11 @@ use mathlib.Core.List.{List, [], _∷_}
 use lib.ListN.{drop}
 use denote.Ref.{RefT}
 use Rattle.words.specs.Word.{Bytes}
-use Rattle.words.specs.Laws.{bytes-drop}
+use Rattle.words.specs.Laws.{bytes-drop, bytes-take}
 use Rattle.record.specs.Answer.{committed}
-use Rattle.record.proofs.Cases.{by-case}
 use Rattle.log.specs.declared.found.Cut.{Cut}
 use Rattle.log.specs.declared.found.Cut.the-variants.{Record}
-use Rattle.log.specs.Log.{cutAt, partOf, startOf, endsAt, brokenAt, CutIs, HandedOut}
+use Rattle.log.specs.Log.{cutAt, partOf, startOf, CutIs, HandedOut}
 use Rattle.log.specs.Walk.{Walks, ends, breaks, hands}
 use Rattle.log.proofs.Walk.{walked}
 use Rattle.pool.specs.Image.{Fit}
@@ -22,13 +21,11 @@ use Rattle.meld.specs.declared.melding.Melded.{Melded}
 use Rattle.demands.specs.Runs.{ReadingOn, so-far, isOver}
 use Rattle.demands.specs.Calls.{Call, none-more}
 use Rattle.demands.specs.SomeRun.{SomeMeld, SomeWhole}
-use Rattle.demands.proofs.Reading.{bytes-take}
 use Rattle.demands.proofs.Calls.{call-stays-fit, stays-fit}
 
 -- what stands at a place is what `cut` promises
 cut-is : (log : List ℕ) (place : ℕ) → CutIs log place (cutAt log place)
-unfolding cutAt
-cut-is log place = record { case = refl; number = by-case (endsAt log place) (λ e. simp e) (λ e. by-case (brokenAt log place) (λ b. simp (e, b)) (λ b. simp (e, b))) }
+cut-is log place = record { told = refl }
 
 -- from a place and a pool on, up to where no record is found
 record SomeReading (log : List ℕ) (place : ℕ) (m : List ℕ) (last : Cut) : Type 0 where
