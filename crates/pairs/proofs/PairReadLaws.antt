@@ -12,7 +12,7 @@ use mathlib.Core.List.{List, [], _∷_, _++_, map}
 use lib.Dec.{leb, eqb}
 use lib.ListN.{length, take, drop, getD, set, replicate, length-map, length-set, length-take, length-replicate}
 use lib.Seq.{take-append-seam, length-take-le}
-use borrow.Author.Tests.{lt-ltb, le-ltb, le-leb, lt-leb, leb-true}
+use borrow.Author.Tests.{lt-ltb, le-ltb, le-leb, leb-true}
 use Rattle.record.specs.declared.point.Scan.{Scan}
 use Rattle.record.specs.declared.reader.Reading.{Reading}
 use Rattle.words.specs.Word.{word}
@@ -140,6 +140,7 @@ module _ (bytes ks es xs : List ℕ) (cs : List Scan) (f : Found) (ks′ es′ x
     pub within : f .reading .scans ≤ length cs
     pub read : PairsRead bytes ks es xs cs (f .reading) ks′ es′ xs′ (storedFirst (f .reading .scans) (f .halves) cs)
 
+  -- what the two lists begin as
   abbrev zeros : List ℕ
   zeros = replicate (atMost8 (length cs)) 0
 
@@ -180,7 +181,9 @@ module _ (bytes ks es xs : List ℕ) (cs : List Scan) (f : Found) (ks′ es′ x
         let reading : f .reading ≡ taken r = ap (λ (o : ReadOutcome). o .reading) e in
         let found : f .reading .scans ≡ length (r .scans) = ap (λ (y : Reading). y .scans) reading in
         let fits : length (r .scans) ≤ atMost8 (length cs) =
-        let l : length (r .scans) ≤ length zeros = leb-true _ _ (last-two (leb (length (r .points)) (length ks)) (leb (length (r .points)) (length es)) (leb (length (r .points)) (length xs)) (leb (length (r .scans)) (length zeros)) (leb (length (r .scans)) (length zeros)) room .1) in
+        let l : length (r .scans) ≤ length zeros = leb-true _ _
+        (last-two (leb (length (r .points)) (length ks)) (leb (length (r .points)) (length es)) (leb (length (r .points)) (length xs))
+        (leb (length (r .scans)) (length zeros)) (leb (length (r .scans)) (length zeros)) room .1) in
         omega (arith, l, length-replicate {A = ℕ} (atMost8 (length cs)) 0) in
         let bounds = least-bounds (length cs) (atMost8 (length cs)) refl in
         let within : length (r .scans) ≤ length cs = omega (arith, fits, bounds .1) in
@@ -198,6 +201,7 @@ module _ (bytes ks es xs : List ℕ) (cs : List Scan) (f : Found) (ks′ es′ x
     unfolding readOf
     short room = refused outputShort (simp (is, room)) (simp (is, same-roomy ∙ room))
 
+  -- the core's answer has that meaning, by what the bytes are and whether the lists have room
   pub halves-mean : Meant
   unfolding readOf
   halves-mean = by-parse (parse bytes) refl
