@@ -1,6 +1,6 @@
 -- The numbers tell the cases apart: what C is given says which case of the enum stood behind it, and where the record in force lies.
 -- Assumes nothing.
-use Prim.Native.Nat.{ℕ, _-_, _≤_, _<_}
+use Prim.Native.Nat.{ℕ, _-_, _≤_}
 use mathlib.Core.Path.{_≡_, refl, sym, ap, _∙_}
 use mathlib.Core.Bool.{Bool, cond}
 use mathlib.Core.Option.{Option, none, some}
@@ -16,13 +16,12 @@ use Rattle.log.specs.declared.found.Cut.{Cut}
 use Rattle.log.specs.declared.found.Cut.the-variants.{End, Broken, Record}
 use Rattle.log.specs.Log.{cutAt, partOf}
 use Rattle.log.proofs.Stands.{record-tells}
+use Rattle.record_abi.specs.Numbers.{answer}
 use Rattle.in_force.specs.InForce.{Source, original, refreshed, nothing, sourceOf, bytesFrom}
 use Rattle.meld.specs.Lookups.{lookupOf}
 use Rattle.abi.specs.declared.numbers.LookupNumbers.{LookupNumbers}
-use Rattle.abi.specs.declared.numbers.CutNumbers.{CutNumbers}
 use Rattle.abi.specs.Numbers as Numbers
-use Rattle.abi.specs.Numbers.{answer}
-use Rattle.abi.specs.Told.{LooksUpAs, LookupTells, CutTells, inRefreshed, InForceAs}
+use Rattle.abi.specs.Told.{LooksUpAs, LookupTells, inRefreshed, InForceAs}
 
 -- A LOOKUP
 
@@ -69,29 +68,6 @@ lookup-tells m k n x w h =
         let z : x ≡ y = ap (λ (t : LookupNumbers). t .payload) q in
         let u : w ≡ v = ap (λ (t : LookupNumbers). t .position) q in
         cc
-
--- A CUT
-
-pub cut-tells : (log : List ℕ) (place n next : ℕ) → Numbers.found n next ≡ Numbers.ofCut (cutAt log place) place → CutTells log place n next
-cut-tells log place n next h = go (cutAt log place) refl h
-  where
-    go : (c : Cut) → cutAt log place ≡ c → Numbers.found n next ≡ Numbers.ofCut c place → CutTells log place n next
-    go End is q =
-        let a : n ≡ 0 = ap (λ (t : CutNumbers). t .number) q in
-        let b : next ≡ place = ap (λ (t : CutNumbers). t .next) q in
-        record { broken-is = λ e. absurd (omega arith); end-is = λ _ _. is; record-is = λ _ e. absurd (omega arith) }
-    go Broken is q =
-        let a : n ≡ 10 = ap (λ (t : CutNumbers). t .number) q in
-        record { broken-is = λ _. is; end-is = λ e _. absurd (omega arith); record-is = λ e _. absurd (omega arith) }
-    go (Record past) is q =
-        let a : n ≡ 0 = ap (λ (t : CutNumbers). t .number) q in
-        let b : next ≡ past = ap (λ (t : CutNumbers). t .next) q in
-        let beyond = record-tells log place past is in
-        record {
-          broken-is = λ e. absurd (omega arith);
-          end-is = λ _ e. absurd (omega (arith, beyond .past));
-          record-is = λ _ _. is ∙ ap Record (sym b);
-        }
 
 -- THE RECORD IN FORCE
 

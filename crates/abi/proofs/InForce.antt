@@ -16,7 +16,7 @@ use Rattle.log.specs.Log.{cutAt, partOf}
 use Rattle.log.proofs.Stands.{record-tells}
 use Rattle.log.proofs.Walk.{sized-at, sized-range}
 use Rattle.in_force.specs.InForce.{Source, original, refreshed, nothing, sourceOf, ifCut, bytesFrom, InForce}
-use Rattle.abi.specs.Numbers.{answer}
+use Rattle.record_abi.specs.Numbers.{answer}
 use Rattle.abi.specs.Told.{inRefreshed, InForceAs}
 
 module _ (n : ℕ) (o b r : RefT (List ℕ)) (h : InForce (answer n) o b r) where

@@ -1,4 +1,4 @@
--- No second answer meets the promise of an exported function: the number that it answers, every number that it sets and every byte that it
+-- No second answer meets the promise of an exported function of the pool (those of the record part: Only.antt of `record_abi`): the number that it answers, every number that it sets and every byte that it
 -- leaves are fixed. Each comes from the law of the function below it, field by field.
 -- Assumes nothing.
 use Prim.Native.Nat.{ℕ}
@@ -7,10 +7,7 @@ use mathlib.Core.Bool.{Bool}
 use mathlib.Core.List.{List}
 use Rattle.words.specs.Word.{Bytes}
 use Rattle.record.specs.declared.answer.Answer.{Answer}
-use Rattle.record.specs.Parse.{parse, checkOf}
-use Rattle.record.specs.Reader as Reader
-use Rattle.writer.specs.Writer as Writer
-use Rattle.log.specs.Log.{cutAt}
+use Rattle.record_abi.specs.Numbers.{answer}
 use Rattle.pool.specs.Image.{Fit}
 use Rattle.fit.proofs.Decided.{fit-or-not}
 use Rattle.create.specs.Fresh.{Created}
@@ -21,8 +18,7 @@ use Rattle.meld.specs.declared.melding.Melded.{Melded}
 use Rattle.meld.specs.Melds.{Melds}
 use Rattle.meld.proofs.Only as Meld
 use Rattle.abi.specs.declared.numbers.LookupNumbers.{LookupNumbers}
-use Rattle.abi.specs.declared.numbers.CutNumbers.{CutNumbers}
-use Rattle.abi.specs.Numbers.{answer, melded, reading, written, lookedUp, found, ofCut}
+use Rattle.abi.specs.Numbers.{melded, lookedUp}
 use Rattle.abi.specs.Told.{LooksUpAs, InForceAs}
 
 -- `emuparasol_create`: one number, and one content of the pool
@@ -61,40 +57,3 @@ pub only-in-force : (n : ℕ) (o b : List ℕ) (r q : Bool) (offset size offset�
     → InForceAs n o b r offset size → InForceAs n o b q offset′ size′
     → (r ≡ q) × (offset ≡ offset′) × (size ≡ size′)
 only-in-force n o b r q offset size offset′ size′ h k = (h .slice ∙ sym (k .slice), h .start ∙ sym (k .start), h .bytes ∙ sym (k .bytes))
-
--- `emuparasol_check`: one number
-pub only-check : (bytes : List ℕ) (r q : ℕ) → answer r ≡ checkOf (parse bytes) → answer q ≡ checkOf (parse bytes) → r ≡ q
-only-check bytes r q a b = ap (λ (c : Answer). c .number) (a ∙ sym b)
-
--- `emuparasol_read`: one number, snapshot and two counts, and one content of all five lists
-pub only-read : (bytes : List ℕ) (before : Reader.Lists) (r s points scans q s′ points′ scans′ : ℕ) (left kept : Reader.Lists)
-    → Reader.readOutcome (reading r s points scans) left ≡ Reader.readOf (parse bytes) before
-    → Reader.readOutcome (reading q s′ points′ scans′) kept ≡ Reader.readOf (parse bytes) before
-    → (r ≡ q) × (s ≡ s′) × (points ≡ points′) × (scans ≡ scans′) × (left ≡ kept)
-only-read bytes before r s points scans q s′ points′ scans′ left kept a b =
-    let same : Reader.readOutcome (reading r s points scans) left ≡ Reader.readOutcome (reading q s′ points′ scans′) kept = a ∙ sym b in (
-      ap (λ (o : Reader.ReadOutcome). o .reading .answer .number) same,
-      ap (λ (o : Reader.ReadOutcome). o .reading .snapshot) same,
-      ap (λ (o : Reader.ReadOutcome). o .reading .points) same,
-      ap (λ (o : Reader.ReadOutcome). o .reading .scans) same,
-      ap (λ (o : Reader.ReadOutcome). o .left) same,
-    )
-
--- `emuparasol_write`: one number and size, and one content of the output
-pub only-write : (snapshot : ℕ) (l : Reader.Lists) (output : List ℕ) (r size q size′ : ℕ) (left kept : List ℕ)
-    → Writer.writeOutcome (written r size) left ≡ Writer.writeOf (Writer.recordOf snapshot l) output
-    → Writer.writeOutcome (written q size′) kept ≡ Writer.writeOf (Writer.recordOf snapshot l) output
-    → (r ≡ q) × (size ≡ size′) × (left ≡ kept)
-only-write snapshot l output r size q size′ left kept a b =
-    let same : Writer.writeOutcome (written r size) left ≡ Writer.writeOutcome (written q size′) kept = a ∙ sym b in (
-      ap (λ (o : Writer.WriteOutcome). o .written .answer .number) same,
-      ap (λ (o : Writer.WriteOutcome). o .written .size) same,
-      ap (λ (o : Writer.WriteOutcome). o .left) same,
-    )
-
--- `emuparasol_cut`: one number, and one place afterwards
-pub only-cut : (log : List ℕ) (place r next q next′ : ℕ)
-    → found r next ≡ ofCut (cutAt log place) place → found q next′ ≡ ofCut (cutAt log place) place → (r ≡ q) × (next ≡ next′)
-only-cut log place r next q next′ a b =
-    let same : found r next ≡ found q next′ = a ∙ sym b in
-    (ap (λ (t : CutNumbers). t .number) same, ap (λ (t : CutNumbers). t .next) same)

@@ -1,20 +1,19 @@
 -- What the exported functions promise whose answers are no plain numbers in the library, a lookup and the record in force; and what the
--- numbers say of the case behind them.
+-- numbers of a lookup say of the case behind them.
 -- Assumes nothing: these are definitions.
-use Prim.Native.Nat.{ℕ, _≤_, _<_}
+use Prim.Native.Nat.{ℕ, _≤_}
 use mathlib.Core.Path.{_≡_}
 use mathlib.Core.Bool.{Bool, true, false}
 use mathlib.Core.List.{List}
 use lib.ListN.{length}
-use Rattle.log.specs.declared.found.Cut.the-variants.{End, Broken, Record}
-use Rattle.log.specs.Log.{cutAt}
 use Rattle.rules.specs.Lookup.{absent, found, lookup}
 use Rattle.pool.specs.Image.{Arrangement, Image, Fit, stateOf}
+use Rattle.record_abi.specs.Numbers.{answer}
 use Rattle.in_force.specs.InForce.{Source, original, refreshed, nothing, sourceOf, bytesFrom}
 use Rattle.meld.specs.declared.kept.Lookup.the-variants.{Unfit}
 use Rattle.meld.specs.Lookups.{lookupOf}
 use Rattle.abi.specs.declared.numbers.LookupNumbers.{LookupNumbers}
-use Rattle.abi.specs.Numbers.{answer, ofLookup}
+use Rattle.abi.specs.Numbers.{ofLookup}
 
 -- for the state that the pool means, what the rules' lookup sees, as numbers; 7 where it means none
 pub record LooksUpAs (m : List ℕ) (k : ℕ) (t : LookupNumbers) : Type 0 where
@@ -26,12 +25,6 @@ pub record LookupTells (m : List ℕ) (k n x w : ℕ) : Type 0 where
   pub unfit : n ≡ 7 → Fit m → ⊥
   pub absent-is : n ≡ 0 → w ≡ 0 → (A : Arrangement) → Image m A → lookup k (stateOf A) ≡ absent
   pub found-is : n ≡ 0 → 1 ≤ w → (A : Arrangement) → Image m A → lookup k (stateOf A) ≡ found x w
-
--- 10 says that the log is broken there; 0 with the same place that it ends there; 0 with a later place that a record stands there
-pub record CutTells (log : List ℕ) (place n next : ℕ) : Type 0 where
-  pub broken-is : n ≡ 10 → cutAt log place ≡ Broken
-  pub end-is : n ≡ 0 → next ≡ place → cutAt log place ≡ End
-  pub record-is : n ≡ 0 → place < next → cutAt log place ≡ Record next
 
 -- whether the part lies in the refreshed buffer: the original and the empty part lie in the original
 abbrev pub inRefreshed : Source → Bool

@@ -1,5 +1,5 @@
 // FOR C AND RUST: the public functions over plain numbers and slices, each under its own name in the archive. Whatever is lent, the number
-// that is answered and every number and byte left behind are fixed.
+// that is answered and every number and byte left behind are fixed. The last four need no pool; `record_abi` has them alone.
 mod numbers;
 
 use log::cut;
@@ -8,21 +8,19 @@ use meld::in_force;
 use meld::lookup;
 use meld::meld;
 use meld::refresh;
-use numbers::of_cut;
 use numbers::of_lookup;
 use record::Answer;
 use record::check;
 use record::read;
+use record_abi::numbers::of_cut;
 use writer::write;
-ghost use mathlib.Core.Path.{_≡_};
-ghost use Rattle.record.specs.Parse.{parse, checkOf};
-ghost use Rattle.record.specs.Reader as Reader;
-ghost use Rattle.writer.specs.Writer as Writer;
-ghost use Rattle.log.specs.Log.{cutAt};
+ghost use Rattle.record.specs.Reader.{lists};
+ghost use Rattle.record_abi.specs.Numbers.{answer, reading, written, found};
+ghost use Rattle.record_abi.specs.Told.{ChecksAs, ReadsAs, WritesAs, CutsAs};
 ghost use Rattle.create.specs.Fresh.{Created};
 ghost use Rattle.refresh.specs.Refreshed.{RefreshIs};
 ghost use Rattle.meld.specs.Melds.{Melds};
-ghost use Rattle.abi.specs.Numbers.{answer, melded, reading, written, lookedUp, found, ofCut};
+ghost use Rattle.abi.specs.Numbers.{melded, lookedUp};
 ghost use Rattle.abi.specs.Told.{LooksUpAs, InForceAs};
 
 // Creates a pool with limits n and z in the bytes lent: 0, or 9 and no byte changes.
@@ -94,7 +92,7 @@ pub extern "C" fn emuparasol_in_force<'a>(
 // 0 where the bytes lent are exactly one well-formed record, else 4.
 #[no_mangle]
 pub extern "C" fn emuparasol_check(record: &[u8]) -> u8
-    ensures { λ r. ⌜ answer r ≡ checkOf (parse (now («record» .entry))) ⌝ }
+    ensures { λ r. ⌜ ChecksAs (now («record» .entry)) r ⌝ }
 {
     let answer = check(record);
     answer.number
@@ -113,10 +111,10 @@ pub extern "C" fn emuparasol_read(
     points: &mut usize,
     scans: &mut usize,
 ) -> u8
-    ensures { λ r. ⌜ Reader.readOutcome (reading r (now (snapshot .exit)) (now (points .exit)) (now (scans .exit)))
-        (Reader.lists (now (kinds .exit)) (now (keys .exit)) (now (payloads .exit)) (now (lows .exit)) (now (highs .exit)))
-        ≡ Reader.readOf (parse (now («record» .entry)))
-        (Reader.lists (now (kinds .entry)) (now (keys .entry)) (now (payloads .entry)) (now (lows .entry)) (now (highs .entry))) ⌝ }
+    ensures { λ r. ⌜ ReadsAs (now («record» .entry))
+        (lists (now (kinds .entry)) (now (keys .entry)) (now (payloads .entry)) (now (lows .entry)) (now (highs .entry)))
+        (reading r (now (snapshot .exit)) (now (points .exit)) (now (scans .exit)))
+        (lists (now (kinds .exit)) (now (keys .exit)) (now (payloads .exit)) (now (lows .exit)) (now (highs .exit))) ⌝ }
 {
     let reading = read(record, kinds, keys, payloads, lows, highs);
     *snapshot = reading.snapshot;
@@ -138,10 +136,9 @@ pub extern "C" fn emuparasol_write(
     output: &mut [u8],
     size: &mut usize,
 ) -> u8
-    ensures { λ r. ⌜ Writer.writeOutcome (written r (now (size .exit))) (now (output .exit))
-        ≡ Writer.writeOf (Writer.recordOf snapshot
-        (Reader.lists (now (kinds .entry)) (now (keys .entry)) (now (payloads .entry)) (now (lows .entry)) (now (highs .entry))))
-        (now (output .entry)) ⌝ }
+    ensures { λ r. ⌜ WritesAs snapshot
+        (lists (now (kinds .entry)) (now (keys .entry)) (now (payloads .entry)) (now (lows .entry)) (now (highs .entry)))
+        (now (output .entry)) (written r (now (size .exit))) (now (output .exit)) ⌝ }
 {
     let written = write(snapshot, kinds, keys, payloads, lows, highs, output);
     *size = written.size;
@@ -152,7 +149,7 @@ pub extern "C" fn emuparasol_write(
 // What stands at a place of a log: 10 and the same place for a broken log; else 0, with the place past the record, or the same place at the end.
 #[no_mangle]
 pub extern "C" fn emuparasol_cut(log: &[u8], place: usize, next: &mut usize) -> u8
-    ensures { λ r. ⌜ found r (now (next .exit)) ≡ ofCut (cutAt (now (log .entry)) place) place ⌝ }
+    ensures { λ r. ⌜ CutsAs (now (log .entry)) place (found r (now (next .exit))) ⌝ }
 {
     let found = of_cut(cut(log, place), place);
     *next = found.next;

@@ -1,11 +1,10 @@
-// Answers that are enums, as plain numbers.
-use log::Cut;
+// What a lookup answers, as plain numbers.
 use meld::Lookup;
 use record::Answer;
 ghost use mathlib.Core.Path.{_≡_};
-ghost use Rattle.abi.specs.Numbers.{ofLookup, ofCut};
+ghost use Rattle.abi.specs.Numbers.{ofLookup};
 
-// The number of a case to which the paper gives none.
+// The number of a case to which the rules give none.
 const NO_NUMBER: u8 = 0;
 
 // A lookup's answer: its number, and payload and position of what was found, both 0 otherwise.
@@ -13,12 +12,6 @@ pub struct LookupNumbers {
     pub number: u8,
     pub payload: u64,
     pub position: u32,
-}
-
-// What stands at a place: its number, and the place afterwards.
-pub struct CutNumbers {
-    pub number: u8,
-    pub next: usize,
 }
 
 // A lookup's answer as numbers.
@@ -40,26 +33,6 @@ pub fn of_lookup(kept: Lookup) -> LookupNumbers
             number: NO_NUMBER,
             payload,
             position,
-        },
-    }
-}
-
-// What a cut found at a place, as numbers.
-pub fn of_cut(found: Cut, place: usize) -> CutNumbers
-    ensures { λ r. ⌜ r ≡ ofCut found place ⌝ }
-{
-    match found {
-        Cut::End => CutNumbers {
-            number: NO_NUMBER,
-            next: place,
-        },
-        Cut::Broken => CutNumbers {
-            number: Answer::BROKEN_LOG.number,
-            next: place,
-        },
-        Cut::Record(next) => CutNumbers {
-            number: NO_NUMBER,
-            next,
         },
     }
 }

@@ -1,5 +1,6 @@
 //! The interface of the library is said three times: in the proved source
-//! (`crates/abi`), in `include/emuparasol.h` and in the Rust declarations
+//! (`crates/abi`; the record part alone again in `crates/record_abi`), in
+//! `include/emuparasol.h` and in the Rust declarations
 //! (`emuparasol/src/declared.rs`); the answers also in `crates/record` and in the
 //! Rust enum. This crate reads each of them and says where two differ.
 //!

@@ -10,6 +10,8 @@ use crate::{answers, compare_answers, compare_functions, functions};
 pub struct Sources {
     /// Every file of `crates/abi/src`.
     pub rattle: String,
+    /// Every file of `crates/record_abi/src`, which has some of these functions.
+    pub rattle_records: String,
     /// `include/emuparasol.h`.
     pub header: String,
     /// `host/emuparasol/src/declared.rs`.
@@ -28,6 +30,7 @@ impl Sources {
         };
         Ok(Sources {
             rattle: sources_below(&top.join("crates/abi/src"))?,
+            rattle_records: sources_below(&top.join("crates/record_abi/src"))?,
             header: text("include/emuparasol.h")?,
             declared: text("host/emuparasol/src/declared.rs")?,
             rattle_answers: text("crates/record/src/answer.rt")?,
@@ -38,6 +41,7 @@ impl Sources {
     /// Every difference, a line each; how many functions and answers there are.
     pub fn differences(&self) -> Result<(Vec<String>, usize, usize), String> {
         let rattle = functions::of_rattle(&self.rattle)?;
+        let records = functions::of_rattle(&self.rattle_records)?;
         let header = functions::of_c(&self.header)?;
         let declared = functions::of_rust(&self.declared)?;
         let answers = answers::of_rattle(&self.rattle_answers)?;
@@ -45,6 +49,18 @@ impl Sources {
         let rust_answers = answers::of_rust(&self.rust_answers)?;
         let proved = "the proved source";
         let mut found = compare_functions(proved, &rattle, "the header", &header);
+        // The record part alone has no more functions than the whole, and the same.
+        let shared: Vec<_> = rattle
+            .iter()
+            .filter(|it| records.iter().any(|other| other.name == it.name))
+            .cloned()
+            .collect();
+        found.extend(compare_functions(
+            proved,
+            &shared,
+            "the record part alone",
+            &records,
+        ));
         found.extend(compare_functions(
             proved,
             &rattle,

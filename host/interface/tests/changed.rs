@@ -114,6 +114,26 @@ fn a_changed_proved_source_is_noticed() {
 }
 
 #[test]
+fn a_changed_record_part_is_noticed() {
+    let edits = [
+        ("emuparasol_check", "record: &[u8]", "record: &mut [u8]"),
+        ("emuparasol_read", "points: &mut usize", "points: &mut u32"),
+        ("emuparasol_write", "snapshot: u32", "snapshot: u64"),
+        ("emuparasol_cut", "place: usize, ", ""),
+        (
+            "emuparasol_cuts",
+            "fn emuparasol_cut(",
+            "fn emuparasol_cuts(",
+        ),
+    ];
+    for (name, from, to) in edits {
+        noticed(name, |sources| {
+            change(&mut sources.rattle_records, from, to)
+        });
+    }
+}
+
+#[test]
 fn changed_answers_are_noticed() {
     noticed("TOO_OLD", |it| {
         change(&mut it.header, "TOO_OLD = 2", "TOO_OLD = 3")

@@ -1,5 +1,5 @@
--- `emuparasol_cut` meets its promise: what `cut` found, as numbers (Carried.antt).
-use Rattle.abi.proofs.Carried.{cut-carried}
+-- `emuparasol_cut` meets its promise: what `cut` found, as numbers (Carried.antt of `record_abi`).
+use Rattle.record_abi.proofs.Carried.{cut-carried}
 use borrow.Author.Needs.{needs}
 use Rattle.abi.proofs.emuparasol_cut.Statement.{statement}
 use Rattle.abi.proofs.emuparasol_cut.Tie as tie

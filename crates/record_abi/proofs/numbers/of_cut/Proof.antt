@@ -1,8 +1,8 @@
--- `abi::numbers::of_cut` meets its promise, by cases on what was found.
-use Rattle.abi.proofs.Carried.{known-cut}
+-- `record_abi::numbers::of_cut` meets its promise, by cases on what was found.
+use Rattle.record_abi.proofs.Carried.{known-cut}
 use borrow.Author.Needs.{needs}
-use Rattle.abi.proofs.numbers.of_cut.Statement.{statement}
-use Rattle.abi.proofs.numbers.of_cut.Tie as tie
+use Rattle.record_abi.proofs.numbers.of_cut.Statement.{statement}
+use Rattle.record_abi.proofs.numbers.of_cut.Tie as tie
 
 enum-told : tie.Need-enum-told
 enum-told c = search needs
