@@ -4,12 +4,15 @@ use libc::STDIN_FILENO;
 use libc::STDOUT_FILENO;
 use lines::HEAD;
 use lines::POOL;
+use lines::Taken;
 use lines::meld_whole;
 use lines::open;
-use lines::print_bad_limits;
+use lines::print_answer;
 use lines::print_ending;
+use record::Answer;
 use words::word4;
-ghost use Prim.Native.Nat.{_≤_};
+ghost use Rattle.lines.specs.Opening.{New};
+ghost use Rattle.lines.specs.Lines.{LogMelded};
 
 // Prints the line that opens a case.
 fn print_case(number: u64) {
@@ -18,21 +21,27 @@ fn print_case(number: u64) {
     io::write_all(STDOUT_FILENO, b"\n");
 }
 
-// Melds a whole log into a new pool and prints its lines.
-fn meld_log(pool: &mut [u8], log: &[u8]) {
-    let taken = meld_whole(pool, log, 1);
-    print_ending(log.len() - taken.bytes);
+// Melds a whole log into a new pool and prints a line for each record, with positions from 1 on.
+fn meld_log(pool: &mut [u8], log: &[u8]) -> Taken
+    requires { ⌜ New (now pool) ⌝ }
+    ensures { λ r. ⌜ LogMelded (now (log .entry)) (now (pool .entry)) (now (pool .exit)) r ⌝ }
+{
+    meld_whole(pool, log, 1)
 }
 
 // Prints the lines of one input.
 fn print_verdicts(input: &[u8]) {
     let mut pool = [0u8; POOL];
-    let size = open(&mut pool, input);
-    if size == 0 || input.len() < HEAD {
-        print_bad_limits();
+    let asked = open(&mut pool, input);
+    let answer = asked.answer;
+    let size = asked.size;
+    if answer.number != Answer::COMMITTED.number {
+        print_answer(answer);
         return;
     }
-    meld_log(&mut pool[..size], &input[HEAD..]);
+    let taken = meld_log(&mut pool[..size], &input[HEAD..]);
+    let found = taken.found;
+    print_ending(found);
 }
 
 // Reads one case into the bytes lent, which are as many as it has, and prints its lines.

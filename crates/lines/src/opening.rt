@@ -2,8 +2,9 @@
 use meld::create;
 use record::Answer;
 use words::word4;
+ghost use mathlib.Core.Path.{_≡_};
 ghost use Prim.Native.Nat.{_≤_};
-ghost use Rattle.io.specs.Counts.{Counts};
+ghost use Rattle.lines.specs.Opening.{sizeFor, Opens};
 
 // The bytes in front of the log.
 pub const HEAD: usize = 8;
@@ -14,33 +15,43 @@ const MOST_KEYS: u32 = 1000;
 // The bytes of a pool for that N.
 pub const POOL: usize = 64064;
 
-// The bytes of a pool for N keys; 0 for an N above the programs' own limit.
+// What opening an input answers, 0 or 9, and the size of the pool at the front of the bytes lent.
+pub struct Asked {
+    pub answer: Answer,
+    pub size: usize,
+}
+
+// The answer to an input that asks for no pool of the programs.
+const REFUSED: Asked = Asked {
+    answer: Answer::BAD_LIMITS,
+    size: 0,
+};
+
+// The bytes of a pool for N keys.
 fn size_for(n: u32) -> usize
-    ensures { λ r. ⌜ r ≤ 64064 ⌝ }
+    requires { ⌜ n ≤ 1000 ⌝ }
+    ensures { λ r. ⌜ r ≡ sizeFor n ⌝ }
 {
-    if n > MOST_KEYS {
-        return 0;
-    }
     64 + 64 * (n as usize)
 }
 
-// Creates the pool that an input's first eight bytes ask for, at the front of the bytes lent, and answers its size; 0 for bad limits,
-// a larger N, fewer than eight bytes, or too few bytes lent.
-pub fn open(pool: &mut [u8], head: &[u8]) -> usize
-    ensures { λ r. ⌜ Counts r (now (pool .exit)) ⌝ }
+// Creates the pool that an input's first eight bytes ask for, at the front of the bytes lent, with the answer of `create`; 9 and no byte
+// changed for fewer than eight bytes, an N above the programs' own limit, or too few bytes lent.
+pub fn open(pool: &mut [u8], head: &[u8]) -> Asked
+    ensures { λ r. ⌜ Opens (now (pool .entry)) (now (head .entry)) r (now (pool .exit)) ⌝ }
 {
     if head.len() < HEAD {
-        return 0;
+        return REFUSED;
     }
     let n = word4(head, 0);
     let z = word4(head, 4);
+    if n > MOST_KEYS {
+        return REFUSED;
+    }
     let size = size_for(n);
     if pool.len() < size {
-        return 0;
+        return REFUSED;
     }
     let answer = create(&mut pool[..size], n, z);
-    if answer.number != Answer::COMMITTED.number {
-        return 0;
-    }
-    size
+    Asked { answer, size }
 }

@@ -1,35 +1,37 @@
-// The lines, in decimal.
+// The lines, in decimal. Each function prints the numbers that it is given, in their order, and nothing else.
 use libc::STDOUT_FILENO;
-use meld::Melded;
+use log::Cut;
 use record::Answer;
 
+// What the line of a record says.
+pub struct Line {
+    pub position: u64,
+    pub answer: Answer,
+    pub looks: u32,
+}
+
 // Prints an answer's number, with a line feed.
-fn print_answer(answer: Answer) {
+pub fn print_answer(answer: Answer) {
     io::print_decimal(STDOUT_FILENO, answer.number as u64);
     io::write_all(STDOUT_FILENO, b"\n");
 }
 
 // Prints a record's line: its position, its answer and its looks, with single spaces and a line feed.
-pub fn print_line(position: u64, melded: Melded) {
-    let answer = melded.answer;
-    io::print_decimal(STDOUT_FILENO, position);
+pub fn print_line(line: Line) {
+    let answer = line.answer;
+    io::print_decimal(STDOUT_FILENO, line.position);
     io::write_all(STDOUT_FILENO, b" ");
     io::print_decimal(STDOUT_FILENO, answer.number as u64);
     io::write_all(STDOUT_FILENO, b" ");
-    io::print_decimal(STDOUT_FILENO, melded.looks as u64);
+    io::print_decimal(STDOUT_FILENO, line.looks as u64);
     io::write_all(STDOUT_FILENO, b"\n");
 }
 
-// Prints the line after the last record: `end`, or 10 where bytes are left that are no whole record.
-pub fn print_ending(left: usize) {
-    if left == 0 {
-        io::write_all(STDOUT_FILENO, b"end\n");
-    } else {
+// Prints the line after the last record: `end` where that is what stands there, else 10.
+pub fn print_ending(found: Cut) {
+    let Cut::End = found else {
         print_answer(Answer::BROKEN_LOG);
-    }
-}
-
-// Prints the only line for bad limits.
-pub fn print_bad_limits() {
-    print_answer(Answer::BAD_LIMITS);
+        return;
+    };
+    io::write_all(STDOUT_FILENO, b"end\n");
 }

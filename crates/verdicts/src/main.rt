@@ -9,10 +9,15 @@ use lines::HEAD;
 use lines::POOL;
 use lines::meld_whole;
 use lines::open;
-use lines::print_bad_limits;
+use lines::print_answer;
 use lines::print_ending;
+use log::Cut;
+use log::cut;
+use record::Answer;
 ghost use Prim.Native.Nat.{_≤_};
 ghost use lib.ListN.{length};
+ghost use Rattle.lines.specs.Opening.{New};
+ghost use Rattle.verdicts.specs.Turns.{TurnIs, Streamed};
 
 // How far the program is: the bytes held at the front of the buffer, the position of the record that begins there, and whether the last
 // read brought anything.
@@ -26,7 +31,7 @@ struct Progress {
 // the buffer is full with no whole record at its front.
 fn read_on(pool: &mut [u8], buffer: &mut [u8], held: usize, position: u64) -> Progress
     requires { ⌜ held ≤ length (now buffer) ⌝ }
-    ensures { λ r. ⌜ r .held ≤ length (now (buffer .exit)) ⌝ }
+    ensures { λ r. ⌜ TurnIs held position (now (pool .entry)) (now (buffer .entry)) (now (pool .exit)) (now (buffer .exit)) r ⌝ }
 {
     let filled = refill(buffer, held);
     let taken = meld_whole(pool, &buffer[..filled], position);
@@ -38,11 +43,11 @@ fn read_on(pool: &mut [u8], buffer: &mut [u8], held: usize, position: u64) -> Pr
     }
 }
 
-// Melds the log on standard input, from where it stands, into a new pool. A proved loop has to end, so it counts its turns down from a
-// number that no run uses up.
-fn meld_input(pool: &mut [u8]) {
-    let mut space = io::buffer();
-    let buffer: &mut [u8] = &mut space;
+// Melds the log on standard input, from where it stands, through a buffer, and answers what stands behind its last record. A proved loop has
+// to end, so it counts its turns down from a number that no run uses up.
+fn meld_through(pool: &mut [u8], buffer: &mut [u8]) -> Cut
+    ensures { λ r. ⌜ Streamed (now (pool .entry)) (now (buffer .entry)) (now (pool .exit)) (now (buffer .exit)) r ⌝ }
+{
     let mut held = 0;
     let mut position: u64 = 1;
     let mut more = true;
@@ -54,16 +59,26 @@ fn meld_input(pool: &mut [u8]) {
         position = progress.position;
         more = progress.more;
     }
-    print_ending(held);
+    cut(&buffer[..held], 0)
+}
+
+// Melds the log on standard input into a new pool and prints its lines.
+fn meld_input(pool: &mut [u8])
+    requires { ⌜ New (now pool) ⌝ }
+{
+    let mut space = io::buffer();
+    print_ending(meld_through(pool, &mut space));
 }
 
 fn main() {
     let mut pool = [0u8; POOL];
     let mut head = [0u8; HEAD];
     let got = io::read_full(STDIN_FILENO, &mut head);
-    let size = open(&mut pool, &head[..got]);
-    if size == 0 {
-        print_bad_limits();
+    let asked = open(&mut pool, &head[..got]);
+    let answer = asked.answer;
+    let size = asked.size;
+    if answer.number != Answer::COMMITTED.number {
+        print_answer(answer);
         return;
     }
     meld_input(&mut pool[..size]);

@@ -1,9 +1,9 @@
--- `verdicts::refill` meets its contract: what a read brings lies in the part lent to it, and the buffer keeps its length.
+-- `verdicts::refill` meets its contract: a read is lent the part behind the bytes held, so these are as they were.
 -- Assumes nothing.
-use mathlib.Core.Path.{sym}
+use lib.ListN.{take}
 use native.Mathlib.Omega.{arith}
-use lib.Seq.{length-take-le}
 use borrow.Author.Needs.{needs}
+use lib.Seq.{length-take-le, take-at}
 use Rattle.verdicts.proofs.input.refill.Statement.{statement}
 use Rattle.verdicts.proofs.input.refill.Tie as tie
 
@@ -38,7 +38,7 @@ same-length : tie.Need-same-length
 same-length c = search needs
 
 returns : tie.Need-returns
-returns c = (search needs, sym (length-take-le _ _ (search needs)))
+returns c = record { as-long = same-length c; kept = take-at (take (c .before .before .before .before .before .before .before .before .args .held) (c .before .before .before .before .before .before .before .before .args .buffer .now)) _ (c .before .before .before .before .before .before .before .before .args .held) (length-take-le (c .before .before .before .before .before .before .before .before .args .held) (c .before .before .before .before .before .before .before .before .args .buffer .now) (omega arith)); least = omega arith; most = search needs }
 
 pub refill-spec : {M : Type 1} → statement M
 refill-spec =
