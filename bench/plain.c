@@ -89,11 +89,11 @@ static bool free_fit(const uint8_t *pool, uint32_t nodes, uint32_t i, uint32_t c
     return i == NONE;
 }
 
-static bool fits(const uint8_t *pool, size_t length) {
+static bool fits(const uint8_t *pool, uint64_t length) {
     if (length < HEAD || get(pool + MARK) != 0x454D5031u)
         return false;
     uint32_t limit = get(pool + LIMIT), zone = get(pool + ZONE), kept = get(pool + KEPT), root = get(pool + ROOT);
-    if (limit - 1 >= 65536 || zone - 1 >= 4096 || length != HEAD + 64 * (size_t)limit || kept > limit)
+    if (limit - 1 >= 65536 || zone - 1 >= 4096 || length != HEAD + 64 * (uint64_t)limit || kept > limit)
         return false;
     for (int at = REST; at < HEAD; at += 4)
         if (get(pool + at) != 0)
@@ -123,7 +123,7 @@ static uint8_t *leaf_of(const uint8_t *pool, uint32_t key) {
     }
 }
 
-uint8_t plain_lookup(const uint8_t *pool, size_t pool_length, uint32_t key, uint64_t *payload, uint32_t *position) {
+uint8_t plain_lookup(const uint8_t *pool, uint64_t pool_length, uint32_t key, uint64_t *payload, uint32_t *position) {
     *payload = 0;
     *position = 0;
     if (!fits(pool, pool_length))
@@ -146,8 +146,8 @@ struct record {
     uint32_t lows[MOST_SCANS], highs[MOST_SCANS];
 };
 
-static bool parse(const uint8_t *at, size_t length, struct record *r) {
-    if (length < 9 || length != 2 + (size_t)(at[0] << 8 | at[1]) || at[2] != 1 || at[7] > MOST_POINTS || at[8] > MOST_SCANS)
+static bool parse(const uint8_t *at, uint64_t length, struct record *r) {
+    if (length < 9 || length != 2 + (uint64_t)(at[0] << 8 | at[1]) || at[2] != 1 || at[7] > MOST_POINTS || at[8] > MOST_SCANS)
         return false;
     const uint8_t *end = at + length;
     r->snapshot = get(at + 3);
@@ -315,7 +315,7 @@ static int room(const uint8_t *pool, const struct record *r, uint32_t limit) {
     return kept + absent + revived - (kept > 0 ? count_old(pool, get(pool + ROOT), limit) : 0) <= n ? 1 : 2;
 }
 
-uint8_t plain_meld(uint8_t *pool, size_t pool_length, const uint8_t *record, size_t record_length, uint32_t *looks) {
+uint8_t plain_meld(uint8_t *pool, uint64_t pool_length, const uint8_t *record, uint64_t record_length, uint32_t *looks) {
     struct record r;
     *looks = 0;
     if (!fits(pool, pool_length))

@@ -3,10 +3,9 @@
 #define PLAIN_H
 
 #include <stdbool.h>
-#include <stddef.h>
 #include <stdint.h>
 
-uint8_t plain_lookup(const uint8_t *pool, size_t pool_length, uint32_t key, uint64_t *payload, uint32_t *position);
-uint8_t plain_meld(uint8_t *pool, size_t pool_length, const uint8_t *record, size_t record_length, uint32_t *looks);
+uint8_t plain_lookup(const uint8_t *pool, uint64_t pool_length, uint32_t key, uint64_t *payload, uint32_t *position);
+uint8_t plain_meld(uint8_t *pool, uint64_t pool_length, const uint8_t *record, uint64_t record_length, uint32_t *looks);
 
 #endif
