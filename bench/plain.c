@@ -11,21 +11,28 @@ enum { HEAD = 64, NODE = 32, MOST_POINTS = 64, MOST_SCANS = 8, DEEPEST = 33 };
 enum { HEIGHT = 0, LOW = 4, NEWEST = 8, OLDEST = 12, LEFT = 16, RIGHT = 20, KIND = 24, SPARE = 28 };
 enum { MARK = 0, LIMIT = 4, ZONE = 8, POSITION = 12, KEPT = 16, ROOT = 20, FREE = 24, REST = 28 };
 
+/* Big-endian numbers, on a processor of either byte order. */
+#if __BYTE_ORDER__ == __ORDER_BIG_ENDIAN__
+#define TURNED(bits, x) (x)
+#else
+#define TURNED(bits, x) __builtin_bswap##bits(x)
+#endif
+
 static inline uint32_t get(const uint8_t *at) {
     uint32_t x;
     memcpy(&x, at, 4);
-    return __builtin_bswap32(x);
+    return TURNED(32, x);
 }
 
 static inline void set(uint8_t *at, uint32_t x) {
-    x = __builtin_bswap32(x);
+    x = TURNED(32, x);
     memcpy(at, &x, 4);
 }
 
 static inline uint64_t get_two(const uint8_t *at) {
     uint64_t x;
     memcpy(&x, at, 8);
-    return __builtin_bswap64(x);
+    return TURNED(64, x);
 }
 
 static inline uint8_t *node_at(const uint8_t *pool, uint32_t i) { return (uint8_t *)pool + HEAD + NODE * (size_t)i; }
