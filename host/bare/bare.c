@@ -10,10 +10,16 @@
 
 int main(void);
 
-/* The library's needs. */
+/* The library's needs: whole words where they can be had. */
+
+typedef uint32_t __attribute__((may_alias)) word;
 
 void *memcpy(void *to, const void *from, size_t count) {
-    for (size_t i = 0; i < count; i++)
+    size_t i = 0;
+    if ((((uintptr_t)to | (uintptr_t)from) & 3) == 0)
+        for (; i + 4 <= count; i += 4)
+            *(word *)((uint8_t *)to + i) = *(const word *)((const uint8_t *)from + i);
+    for (; i < count; i++)
         ((uint8_t *)to)[i] = ((const uint8_t *)from)[i];
     return to;
 }
@@ -27,7 +33,11 @@ void *memmove(void *to, const void *from, size_t count) {
 }
 
 void *memset(void *to, int byte, size_t count) {
-    for (size_t i = 0; i < count; i++)
+    size_t i = 0;
+    if (((uintptr_t)to & 3) == 0)
+        for (; i + 4 <= count; i += 4)
+            *(word *)((uint8_t *)to + i) = (uint8_t)byte * 0x01010101u;
+    for (; i < count; i++)
         ((uint8_t *)to)[i] = (uint8_t)byte;
     return to;
 }
@@ -142,8 +152,8 @@ int memcmp(const void *one, const void *other, size_t count) {
     return 0;
 }
 
-/* One block, which can grow. */
-static union {
+/* One block, which can grow; start-up leaves it as it is. */
+__attribute__((section(".noinit"))) static union {
     uint64_t aligned;
     uint8_t bytes[1u << 20];
 } heap;
