@@ -24,7 +24,7 @@ enum { MISUSED = 20, NOT_MADE = 21, DIFFERENT = 22 };
 
 /* Pool, and what the command line says of it. */
 static uint8_t *pool;
-static size_t length;
+static uint64_t length;
 static uint32_t n, keys;
 
 /* What is saved beside the pool: the position before the combs, and scans between neighbouring keys. */
@@ -52,14 +52,14 @@ static int by_value(const void *a, const void *b) {
 }
 
 /* A record of points of one kind and of scans; ends the program if the lists break a rule. */
-static size_t record_of(uint8_t *out, uint32_t snapshot, uint32_t *named, size_t points, uint8_t kind, const uint32_t *lows, const uint32_t *highs,
-                        size_t scans) {
+static uint64_t record_of(uint8_t *out, uint32_t snapshot, uint32_t *named, uint64_t points, uint8_t kind, const uint32_t *lows, const uint32_t *highs,
+                          uint64_t scans) {
     uint8_t kinds[64];
     uint64_t payloads[64];
-    size_t size;
+    uint64_t size;
     qsort(named, points, sizeof *named, by_value);
     memset(kinds, kind, sizeof kinds);
-    for (size_t i = 0; i < points; i++)
+    for (uint64_t i = 0; i < points; i++)
         payloads[i] = kind == EMUPARASOL_KIND_PUT ? named[i] : 0;
     if (emuparasol_write(snapshot, kinds, points, named, points, payloads, points, lows, scans, highs, scans, out, EMUPARASOL_MOST_RECORD, &size) !=
         EMUPARASOL_COMMITTED)
@@ -68,10 +68,10 @@ static size_t record_of(uint8_t *out, uint32_t snapshot, uint32_t *named, size_t
 }
 
 /* Melds one record of points at the pool's position, and expects it to commit. */
-static void meld_points(uint32_t *named, size_t points, uint8_t kind) {
+static void meld_points(uint32_t *named, uint64_t points, uint8_t kind) {
     uint8_t record[EMUPARASOL_MOST_RECORD];
     uint32_t looks;
-    size_t size = record_of(record, word_at(pool + 12), named, points, kind, &n, &n, 0);
+    uint64_t size = record_of(record, word_at(pool + 12), named, points, kind, &n, &n, 0);
     if (emuparasol_meld(pool, length, record, size, &looks) != EMUPARASOL_COMMITTED)
         exit(NOT_MADE);
 }
@@ -138,7 +138,7 @@ static int make(const char *what, uint32_t zone, const char *file, uint32_t tomb
 }
 
 /* The record of a call. */
-static size_t prepare(const char *call, uint32_t points, uint8_t *record) {
+static uint64_t prepare(const char *call, uint32_t points, uint8_t *record) {
     uint32_t some[64], lows[8], highs[8], p = word_at(pool + 12);
     if (!strcmp(call, "fullest")) {
         for (uint32_t i = 0; i < 64; i++)
@@ -156,7 +156,7 @@ static size_t prepare(const char *call, uint32_t points, uint8_t *record) {
 }
 
 /* Makes the call; looks and answer on a look are what was found. */
-static uint8_t make_call(bool plain, bool look, const uint8_t *record, size_t size, uint32_t *looks) {
+static uint8_t make_call(bool plain, bool look, const uint8_t *record, uint64_t size, uint32_t *looks) {
     uint64_t payload;
     if (look)
         return (plain ? plain_lookup : emuparasol_lookup)(pool, length, key_of(keys + 1), &payload, looks);
@@ -194,7 +194,7 @@ int main(int argc, char **argv) {
     fclose(f);
     uint8_t record[EMUPARASOL_MOST_RECORD];
     bool look = !strcmp(call, "look");
-    size_t size = look ? 0 : prepare(call, third, record);
+    uint64_t size = look ? 0 : prepare(call, third, record);
     uint32_t looks = 0;
     uint8_t answer = EMUPARASOL_COMMITTED;
     if (!strcmp(more, "stack")) {

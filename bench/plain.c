@@ -16,21 +16,28 @@ enum { MARK = 0, LIMIT = 4, ZONE = 8, POSITION = 12, KEPT = 16, ROOT = 20, FREE 
 /* What the word KIND of a node says. */
 enum { NO_LEAF = 0, LIVE = 1, TOMBSTONE = 2 };
 
+/* Big-endian numbers, on a processor of either byte order. */
+#if __BYTE_ORDER__ == __ORDER_BIG_ENDIAN__
+#define TURNED(bits, x) (x)
+#else
+#define TURNED(bits, x) __builtin_bswap##bits(x)
+#endif
+
 static inline uint32_t get(const uint8_t *at) {
     uint32_t x;
     memcpy(&x, at, 4);
-    return __builtin_bswap32(x);
+    return TURNED(32, x);
 }
 
 static inline void set(uint8_t *at, uint32_t x) {
-    x = __builtin_bswap32(x);
+    x = TURNED(32, x);
     memcpy(at, &x, 4);
 }
 
 static inline uint64_t get_two(const uint8_t *at) {
     uint64_t x;
     memcpy(&x, at, 8);
-    return __builtin_bswap64(x);
+    return TURNED(64, x);
 }
 
 static inline uint8_t *node_at(const uint8_t *pool, uint32_t i) { return (uint8_t *)pool + HEAD + NODE * (size_t)i; }
@@ -94,11 +101,11 @@ static bool free_fit(const uint8_t *pool, uint32_t nodes, uint32_t i, uint32_t c
     return i == NONE;
 }
 
-static bool fits(const uint8_t *pool, size_t length) {
+static bool fits(const uint8_t *pool, uint64_t length) {
     if (length < HEAD || get(pool + MARK) != 0x454D5031u)
         return false;
     uint32_t limit = get(pool + LIMIT), zone = get(pool + ZONE), kept = get(pool + KEPT), root = get(pool + ROOT);
-    if (limit - 1 >= 65536 || zone - 1 >= 4096 || length != HEAD + 64 * (size_t)limit || kept > limit)
+    if (limit - 1 >= 65536 || zone - 1 >= 4096 || length != HEAD + 64 * (uint64_t)limit || kept > limit)
         return false;
     for (int at = REST; at < HEAD; at += 4)
         if (get(pool + at) != 0)
@@ -128,7 +135,7 @@ static uint8_t *leaf_of(const uint8_t *pool, uint32_t key) {
     }
 }
 
-uint8_t plain_lookup(const uint8_t *pool, size_t pool_length, uint32_t key, uint64_t *payload, uint32_t *position) {
+uint8_t plain_lookup(const uint8_t *pool, uint64_t pool_length, uint32_t key, uint64_t *payload, uint32_t *position) {
     *payload = 0;
     *position = 0;
     if (!fits(pool, pool_length))
@@ -151,8 +158,8 @@ struct record {
     uint32_t lows[EMUPARASOL_MOST_SCANS], highs[EMUPARASOL_MOST_SCANS];
 };
 
-static bool parse(const uint8_t *at, size_t length, struct record *r) {
-    if (length < EMUPARASOL_LEAST_RECORD || length != 2 + (size_t)(at[0] << 8 | at[1]) || at[2] != 1)
+static bool parse(const uint8_t *at, uint64_t length, struct record *r) {
+    if (length < EMUPARASOL_LEAST_RECORD || length != 2 + (uint64_t)(at[0] << 8 | at[1]) || at[2] != 1)
         return false;
     if (at[7] > EMUPARASOL_MOST_POINTS || at[8] > EMUPARASOL_MOST_SCANS)
         return false;
@@ -188,6 +195,99 @@ static bool parse(const uint8_t *at, size_t length, struct record *r) {
     return true;
 }
 
+uint8_t plain_check(const uint8_t *record, uint64_t length) {
+    struct record r;
+    return parse(record, length, &r) ? 0 : 4;
+}
+
+uint8_t plain_read(const uint8_t *record, uint64_t length, uint8_t *kinds, uint64_t kinds_length, uint32_t *keys, uint64_t keys_length,
+                   uint64_t *payloads, uint64_t payloads_length, uint32_t *lows, uint64_t lows_length, uint32_t *highs, uint64_t highs_length,
+                   uint32_t *snapshot, uint64_t *points, uint64_t *scans) {
+    struct record r;
+    *snapshot = 0;
+    *points = *scans = 0;
+    if (!parse(record, length, &r))
+        return 4;
+    uint64_t many = (uint64_t)r.points, pairs = (uint64_t)r.scans;
+    if (kinds_length < many || keys_length < many || payloads_length < many || lows_length < pairs || highs_length < pairs)
+        return 8;
+    memcpy(kinds, r.kinds, many);
+    memcpy(keys, r.keys, 4 * many);
+    memcpy(payloads, r.payloads, 8 * many);
+    memcpy(lows, r.lows, 4 * pairs);
+    memcpy(highs, r.highs, 4 * pairs);
+    *snapshot = r.snapshot;
+    *points = many;
+    *scans = pairs;
+    return 0;
+}
+
+uint8_t plain_write(uint32_t snapshot, const uint8_t *kinds, uint64_t kinds_length, const uint32_t *keys, uint64_t keys_length,
+                    const uint64_t *payloads, uint64_t payloads_length, const uint32_t *lows, uint64_t lows_length, const uint32_t *highs,
+                    uint64_t highs_length, uint8_t *output, uint64_t output_length, uint64_t *size) {
+    uint64_t length = 9 + 8 * lows_length;
+    *size = 0;
+    if (kinds_length > MOST_POINTS || keys_length != kinds_length || payloads_length != kinds_length || lows_length > MOST_SCANS ||
+        highs_length != lows_length)
+        return 4;
+    for (uint64_t i = 0; i < kinds_length; i++) {
+        if (kinds[i] - 1u > 2 || (kinds[i] != 2 && payloads[i] != 0) || (i > 0 && keys[i] <= keys[i - 1]))
+            return 4;
+        length += kinds[i] == 2 ? 13 : 5;
+    }
+    for (uint64_t i = 0; i < lows_length; i++)
+        if (lows[i] > highs[i] || (i > 0 && lows[i] <= highs[i - 1]))
+            return 4;
+    if (output_length < length)
+        return 8;
+    uint8_t *at = output;
+    *at++ = (uint8_t)((length - 2) >> 8);
+    *at++ = (uint8_t)(length - 2);
+    *at++ = 1;
+    set(at, snapshot);
+    at[4] = (uint8_t)kinds_length;
+    at[5] = (uint8_t)lows_length;
+    at += 6;
+    for (uint64_t i = 0; i < kinds_length; i++) {
+        *at++ = kinds[i];
+        set(at, keys[i]);
+        at += 4;
+        if (kinds[i] == 2) {
+            set(at, (uint32_t)(payloads[i] >> 32));
+            set(at + 4, (uint32_t)payloads[i]);
+            at += 8;
+        }
+    }
+    for (uint64_t i = 0; i < lows_length; i++, at += 8) {
+        set(at, lows[i]);
+        set(at + 4, highs[i]);
+    }
+    *size = length;
+    return 0;
+}
+
+uint8_t plain_cut(const uint8_t *log, uint64_t log_length, uint64_t place, uint64_t *next) {
+    *next = place;
+    if (place == log_length)
+        return 0;
+    if (place > log_length || log_length - place < 2)
+        return 10;
+    uint64_t length = (uint64_t)(log[place] << 8 | log[place + 1]);
+    if (length < 7 || length > 903 || log_length - place < 2 + length)
+        return 10;
+    *next = place + 2 + length;
+    return 0;
+}
+
+bool plain_in_force(uint8_t answer, const uint8_t *original, uint64_t original_length, const uint8_t *refreshed, uint64_t refreshed_length,
+                    uint64_t *offset, uint64_t *length) {
+    (void)original;
+    *offset = *length = 0;
+    if (answer == 5)
+        *length = original_length;
+    return answer == 0 && plain_cut(refreshed, refreshed_length, 0, length) == 0 && *length > 0;
+}
+
 /* The conflict walk: from left to right, with a cursor into the points and one into the scans. */
 struct walk {
     const uint8_t *pool;
@@ -213,6 +313,28 @@ static bool conflict(struct walk *w, uint32_t i) {
     return height == 0 || conflict(w, get(n + LEFT)) || conflict(w, get(n + RIGHT));
 }
 
+uint8_t plain_refresh(const uint8_t *pool, uint64_t pool_length, const uint8_t *original, uint64_t original_length, uint8_t *output,
+                      uint64_t output_length) {
+    struct record r;
+    if (!fits(pool, pool_length))
+        return 7;
+    uint32_t p = get(pool + POSITION);
+    if (!parse(original, original_length, &r))
+        return 4;
+    if (r.snapshot > p)
+        return 5;
+    if (p - r.snapshot > get(pool + ZONE))
+        return 2;
+    struct walk w = {pool, &r, 0, 0, 0};
+    if (get(pool + ROOT) != NONE && conflict(&w, get(pool + ROOT)))
+        return 1;
+    if (output_length < original_length)
+        return 8;
+    memcpy(output, original, original_length);
+    set(output + 3, p);
+    return 0;
+}
+
 /* Old tombstones in the tree at node i. */
 static uint32_t count_old(const uint8_t *pool, uint32_t i, uint32_t limit) {
     const uint8_t *n = node_at(pool, i);
@@ -233,6 +355,19 @@ static inline void write_node(uint8_t *n, uint32_t height, uint32_t low, uint32_
     set(n + RIGHT, right);
     set(n + KIND, kind);
     set(n + SPARE, 0);
+}
+
+uint8_t plain_create(uint8_t *pool, uint64_t pool_length, uint32_t n, uint32_t z) {
+    if (n - 1 >= 65536 || z - 1 >= 4096 || pool_length != HEAD + 64 * (uint64_t)n)
+        return 9;
+    memset(pool, 0, HEAD);
+    set(pool + MARK, 0x454D5031u);
+    set(pool + LIMIT, n);
+    set(pool + ZONE, z);
+    set(pool + ROOT, NONE);
+    for (uint32_t i = 0; i < 2 * n; i++)
+        write_node(node_at(pool, i), NONE, i + 1 < 2 * n ? i + 1 : NONE, 2 * n - i, 0, 0, 0, 0);
+    return 0;
 }
 
 /* Newest and oldest of an inner node from its children. */
@@ -324,7 +459,7 @@ static enum room room_for(const uint8_t *pool, const struct record *r, uint32_t 
     return kept + absent + revived - (kept > 0 ? count_old(pool, get(pool + ROOT), limit) : 0) <= n ? AFTER_A_DROP : TOO_LITTLE;
 }
 
-uint8_t plain_meld(uint8_t *pool, size_t pool_length, const uint8_t *record, size_t record_length, uint32_t *looks) {
+uint8_t plain_meld(uint8_t *pool, uint64_t pool_length, const uint8_t *record, uint64_t record_length, uint32_t *looks) {
     struct record r;
     *looks = 0;
     if (!fits(pool, pool_length))

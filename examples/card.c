@@ -14,7 +14,7 @@ uint8_t card_catch_up(struct card *card) {
     uint8_t part[EMUPARASOL_MOST_RECORD];
     bool again = false;
     for (;;) {
-        size_t got = flash_read(card->place, part, sizeof part), next;
+        uint64_t got = flash_read(card->place, part, sizeof part), next;
         uint8_t found = emuparasol_cut(part, got, 0, &next);
         if (next == 0) /* no whole record; with as many bytes as the longest has, there will never be one */
             return got < sizeof part ? EMUPARASOL_COMMITTED : found;
@@ -39,9 +39,9 @@ uint8_t card_catch_up(struct card *card) {
 
 /* Appends a record that was made some time ago, brought up to where the card is. Answers 0 or 5 if it was appended; its verdict comes by
    card_catch_up. Any other answer says why there was nothing to append, or 8 that the flash refused. */
-uint8_t card_submit(struct card *card, const uint8_t *record, size_t length) {
+uint8_t card_submit(struct card *card, const uint8_t *record, uint64_t length) {
     uint8_t output[EMUPARASOL_MOST_RECORD];
-    size_t offset, size;
+    uint64_t offset, size;
     uint8_t answer = emuparasol_refresh(card->pool, sizeof card->pool, record, length, output, sizeof output);
     const uint8_t *from = emuparasol_in_force(answer, record, length, output, sizeof output, &offset, &size) ? output : record;
     if (size == 0)

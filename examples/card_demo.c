@@ -5,16 +5,16 @@
 #include "card.h"
 
 static uint8_t flash[4096];
-static size_t written;
+static uint64_t written;
 static struct card left, right;
 
-size_t flash_read(size_t place, uint8_t *to, size_t room) {
-    size_t count = written - place < room ? written - place : room;
+uint64_t flash_read(uint64_t place, uint8_t *to, uint64_t room) {
+    uint64_t count = written - place < room ? written - place : room;
     memcpy(to, flash + place, count);
     return count;
 }
 
-bool flash_append(const uint8_t *record, size_t length) {
+bool flash_append(const uint8_t *record, uint64_t length) {
     if (sizeof flash - written < length)
         return false;
     memcpy(flash + written, record, length);
@@ -28,10 +28,10 @@ void card_verdict(struct card *card, uint32_t position, uint8_t answer) {
 }
 
 /* A record that puts one key, made when the card was at this position. */
-static size_t put(uint32_t snapshot, uint32_t key, uint64_t payload, uint8_t *record) {
+static uint64_t put(uint32_t snapshot, uint32_t key, uint64_t payload, uint8_t *record) {
     const uint8_t kind = EMUPARASOL_KIND_PUT;
     const uint32_t none = 0;
-    size_t size;
+    uint64_t size;
     emuparasol_write(snapshot, &kind, 1, &key, 1, &payload, 1, &none, 0, &none, 0, record, EMUPARASOL_MOST_RECORD, &size);
     return size;
 }

@@ -15,11 +15,11 @@ static uint32_t word_at(const uint8_t *bytes) {
 }
 
 /* All of standard input; its length is left in *length. NULL if there is no memory for it. */
-static uint8_t *read_all(size_t *length) {
+static uint8_t *read_all(uint64_t *length) {
     uint8_t *bytes = NULL;
     *length = 0;
     for (;;) {
-        uint8_t *larger = realloc(bytes, *length + CHUNK);
+        uint8_t *larger = realloc(bytes, (size_t)*length + CHUNK);
         if (larger == NULL) {
             free(bytes);
             return NULL;
@@ -33,8 +33,8 @@ static uint8_t *read_all(size_t *length) {
 }
 
 /* Melds every record of the log into the pool, and prints a line for each and one for the ending. */
-static void meld_log(size_t pool_length, const uint8_t *log, size_t log_length) {
-    size_t place = 0, next;
+static void meld_log(uint64_t pool_length, const uint8_t *log, uint64_t log_length) {
+    uint64_t place = 0, next;
     unsigned long position = 1;
     while (emuparasol_cut(log, log_length, place, &next) == EMUPARASOL_COMMITTED && next > place) {
         uint32_t looks;
@@ -50,12 +50,12 @@ static void meld_log(size_t pool_length, const uint8_t *log, size_t log_length) 
 }
 
 int main(void) {
-    size_t length;
+    uint64_t length;
     uint8_t *input = read_all(&length);
     if (input == NULL)
         return 1;
     uint32_t n = length < HEAD ? 0 : word_at(input), z = length < HEAD ? 0 : word_at(input + 4);
-    size_t pool_length = n > MOST_N ? 0 : EMUPARASOL_POOL_BYTES(n);
+    uint64_t pool_length = n > MOST_N ? 0 : EMUPARASOL_POOL_BYTES(n);
     unsigned answer = emuparasol_create(pool, pool_length, n, z);
     if (answer == EMUPARASOL_COMMITTED)
         meld_log(pool_length, input + HEAD, length - HEAD);

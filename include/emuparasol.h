@@ -2,6 +2,7 @@
 
    The same for all of them:
    - A list or a buffer is lent as a pointer and the number of its elements. Bytes may stand at any address; numbers stand where their type may.
+   - Lengths, places and sizes are 64-bit numbers on every processor, also on one whose size_t has 32 bits.
    - No pointer may be NULL, also where the number of elements is 0. What is lent to be written (no const) may overlap nothing else that is
      lent to the same call.
    - Nothing else is asked: any bytes may be lent anywhere. A function reads and writes only what it is lent, keeps nothing between two calls,
@@ -11,7 +12,6 @@
 #define EMUPARASOL_H
 
 #include <stdbool.h>
-#include <stddef.h>
 #include <stdint.h>
 
 #ifdef __cplusplus
@@ -41,7 +41,7 @@ enum emuparasol_kind {
 };
 
 /* The bytes of a pool for n keys. */
-#define EMUPARASOL_POOL_BYTES(n) ((size_t)64 + (size_t)64 * (size_t)(n))
+#define EMUPARASOL_POOL_BYTES(n) ((uint64_t)64 + (uint64_t)64 * (uint64_t)(n))
 /* The bytes of the shortest and of the longest record, and the most points and scans in one. */
 #define EMUPARASOL_LEAST_RECORD 9
 #define EMUPARASOL_MOST_RECORD 905
@@ -51,50 +51,50 @@ enum emuparasol_kind {
 /* Makes the lent bytes a new pool, at position 0 and without keys, for at most n keys (1 to 65,536) and zones of at most z positions (1 to 4,096).
    Answers 0: every byte of the pool is fixed by n and z. Answers 9 if n or z is outside its range or pool_length is not 64 + 64 n: the bytes are
    as before. */
-uint8_t emuparasol_create(uint8_t *pool, size_t pool_length, uint32_t n, uint32_t z);
+uint8_t emuparasol_create(uint8_t *pool, uint64_t pool_length, uint32_t n, uint32_t z);
 
 /* What the pool keeps under a key. Answers 0: *position is the position of the last committed write, 1 or more, and *payload what it put there; or
    both are 0, and the key is absent (never written, or deleted). Answers 7 for an unfit pool, with both 0. */
-uint8_t emuparasol_lookup(const uint8_t *pool, size_t pool_length, uint32_t key, uint64_t *payload, uint32_t *position);
+uint8_t emuparasol_lookup(const uint8_t *pool, uint64_t pool_length, uint32_t key, uint64_t *payload, uint32_t *position);
 
 /* Decides the log's next record: the first that applies of 7, 6, 4, 5, 2, 1, 3 and 0. On 7 and 6 the pool is as before; on 4, 5, 2, 1 and 3 only its
    position moves on by one; on 0 the record's writes are stored at that position too. *looks is the number of nodes that the search for a conflict
    looked at, 0 on 7, 6, 4, 5 and 2. */
-uint8_t emuparasol_meld(uint8_t *pool, size_t pool_length, const uint8_t *record, size_t record_length, uint32_t *looks);
+uint8_t emuparasol_meld(uint8_t *pool, uint64_t pool_length, const uint8_t *record, uint64_t record_length, uint32_t *looks);
 
 /* Brings a record that has waited up to the pool's position: the first that applies of 7, 4, 5, 2, 1, 8 and 0. On 0 the front of the output is the
    same record with the pool's position as its snapshot, and the rest of the output is as before; on any other answer all of it is. The room needed
    is original_length. */
-uint8_t emuparasol_refresh(const uint8_t *pool, size_t pool_length, const uint8_t *original, size_t original_length, uint8_t *output,
-                           size_t output_length);
+uint8_t emuparasol_refresh(const uint8_t *pool, uint64_t pool_length, const uint8_t *original, uint64_t original_length, uint8_t *output,
+                           uint64_t output_length);
 
 /* The record to append after a refresh that gave this answer: *length bytes from *offset on, in refreshed if true is answered, else in original.
    After 5 it is all of original; after 0 the record at the front of refreshed, if a log could begin with it; else *length is 0 and there is none.
    *offset is always 0. */
-bool emuparasol_in_force(uint8_t answer, const uint8_t *original, size_t original_length, const uint8_t *refreshed, size_t refreshed_length,
-                         size_t *offset, size_t *length);
+bool emuparasol_in_force(uint8_t answer, const uint8_t *original, uint64_t original_length, const uint8_t *refreshed, uint64_t refreshed_length,
+                         uint64_t *offset, uint64_t *length);
 
 /* Whether the lent bytes are exactly one well-formed record: 0, or 4. */
-uint8_t emuparasol_check(const uint8_t *record, size_t record_length);
+uint8_t emuparasol_check(const uint8_t *record, uint64_t record_length);
 
 /* Takes a record apart. Answers 0: the fronts of the lists hold the kinds, keys and payloads of its *points points (payload 0 for a read or a
    delete) and the low and high ends of its *scans scans, the rest of each list is as before, and *snapshot is its snapshot. Answers 4 for a
    malformed record, then 8 if a list is too short: the lists are as before and *snapshot, *points and *scans are 0. Lists of 64 points and 8 scans
    are always enough. */
-uint8_t emuparasol_read(const uint8_t *record, size_t record_length, uint8_t *kinds, size_t kinds_length, uint32_t *keys, size_t keys_length,
-                        uint64_t *payloads, size_t payloads_length, uint32_t *lows, size_t lows_length, uint32_t *highs, size_t highs_length,
-                        uint32_t *snapshot, size_t *points, size_t *scans);
+uint8_t emuparasol_read(const uint8_t *record, uint64_t record_length, uint8_t *kinds, uint64_t kinds_length, uint32_t *keys, uint64_t keys_length,
+                        uint64_t *payloads, uint64_t payloads_length, uint32_t *lows, uint64_t lows_length, uint32_t *highs, uint64_t highs_length,
+                        uint32_t *snapshot, uint64_t *points, uint64_t *scans);
 
 /* Writes a record from lists: kinds, keys and payloads of equal length (payload 0 for a read or a delete), lows and highs of equal length. Answers 0:
    the record is the first *size bytes of the output and the rest is as before. Answers 4 if the lists break a rule, then 8 if the output is shorter
    than the record: the output is as before and *size is 0. */
-uint8_t emuparasol_write(uint32_t snapshot, const uint8_t *kinds, size_t kinds_length, const uint32_t *keys, size_t keys_length,
-                         const uint64_t *payloads, size_t payloads_length, const uint32_t *lows, size_t lows_length, const uint32_t *highs,
-                         size_t highs_length, uint8_t *output, size_t output_length, size_t *size);
+uint8_t emuparasol_write(uint32_t snapshot, const uint8_t *kinds, uint64_t kinds_length, const uint32_t *keys, uint64_t keys_length,
+                         const uint64_t *payloads, uint64_t payloads_length, const uint32_t *lows, uint64_t lows_length, const uint32_t *highs,
+                         uint64_t highs_length, uint8_t *output, uint64_t output_length, uint64_t *size);
 
 /* What stands at a place of a log. Answers 0 with *next above place: a record, up to *next; it need not be well formed. Answers 0 with *next equal to
    place: the log ends exactly here. Answers 10 with *next equal to place: neither, or a place past the end. */
-uint8_t emuparasol_cut(const uint8_t *log, size_t log_length, size_t place, size_t *next);
+uint8_t emuparasol_cut(const uint8_t *log, uint64_t log_length, uint64_t place, uint64_t *next);
 
 #ifdef __cplusplus
 }

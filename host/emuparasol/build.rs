@@ -1,18 +1,38 @@
-//! On x86-64 the archive is linked, which `rt staticlib abi` makes. On another
-//! processor nothing is linked: the calls go over the bridge (src/bridge.rs).
+//! Links the archive of the processor compiled for, which `tools/archive` makes:
+//! target/archive/TARGET/libemuparasol.a at the repository's top, or in the folder
+//! that EMUPARASOL_ARCHIVE names.
 use std::env;
-use std::path::Path;
+use std::path::{Path, PathBuf};
+use std::process::exit;
+
+/// The name in tools/targets.txt of a processor as Rust names it.
+fn target(arch: &str) -> &str {
+    match arch {
+        "arm" => "armv7",
+        other => other,
+    }
+}
 
 fn main() {
-    if env::var("CARGO_CFG_TARGET_ARCH").as_deref() == Ok("x86_64") {
-        let here = env::var("CARGO_MANIFEST_DIR").expect("cargo says where the crate is");
-        let folder = Path::new(&here).join("../../target/staticlib");
-        println!("cargo:rustc-link-search=native={}", folder.display());
-        println!("cargo:rustc-link-lib=static=abi");
-        println!(
-            "cargo:rerun-if-changed={}",
-            folder.join("libabi.a").display()
-        );
-    }
     println!("cargo:rerun-if-changed=build.rs");
+    println!("cargo:rerun-if-env-changed=EMUPARASOL_ARCHIVE");
+    let arch = env::var("CARGO_CFG_TARGET_ARCH").expect("cargo says the processor");
+    let here = env::var("CARGO_MANIFEST_DIR").expect("cargo says where the crate is");
+    let target = target(&arch);
+    let folder = match env::var_os("EMUPARASOL_ARCHIVE") {
+        Some(folder) => PathBuf::from(folder),
+        None => Path::new(&here).join("../../target/archive").join(target),
+    };
+    let archive = folder.join("libemuparasol.a");
+    println!("cargo:rerun-if-changed={}", archive.display());
+    if !archive.exists() {
+        eprintln!(
+            "there is no {}: 'tools/archive {target}' at the repository's top makes it, \
+             or EMUPARASOL_ARCHIVE names the folder that has it",
+            archive.display()
+        );
+        exit(1);
+    }
+    println!("cargo:rustc-link-search=native={}", folder.display());
+    println!("cargo:rustc-link-lib=static=emuparasol");
 }

@@ -3,71 +3,71 @@
 //! names and parameters to the header and to the proved source (`interface`).
 
 extern "C" {
-    pub fn emuparasol_create(pool: *mut u8, pool_length: usize, n: u32, z: u32) -> u8;
+    pub fn emuparasol_create(pool: *mut u8, pool_length: u64, n: u32, z: u32) -> u8;
     pub fn emuparasol_lookup(
         pool: *const u8,
-        pool_length: usize,
+        pool_length: u64,
         key: u32,
         payload: *mut u64,
         position: *mut u32,
     ) -> u8;
     pub fn emuparasol_meld(
         pool: *mut u8,
-        pool_length: usize,
+        pool_length: u64,
         record: *const u8,
-        record_length: usize,
+        record_length: u64,
         looks: *mut u32,
     ) -> u8;
     pub fn emuparasol_refresh(
         pool: *const u8,
-        pool_length: usize,
+        pool_length: u64,
         original: *const u8,
-        original_length: usize,
+        original_length: u64,
         output: *mut u8,
-        output_length: usize,
+        output_length: u64,
     ) -> u8;
     pub fn emuparasol_in_force(
         answer: u8,
         original: *const u8,
-        original_length: usize,
+        original_length: u64,
         refreshed: *const u8,
-        refreshed_length: usize,
-        offset: *mut usize,
-        length: *mut usize,
+        refreshed_length: u64,
+        offset: *mut u64,
+        length: *mut u64,
     ) -> bool;
-    pub fn emuparasol_check(record: *const u8, record_length: usize) -> u8;
+    pub fn emuparasol_check(record: *const u8, record_length: u64) -> u8;
     pub fn emuparasol_read(
         record: *const u8,
-        record_length: usize,
+        record_length: u64,
         kinds: *mut u8,
-        kinds_length: usize,
+        kinds_length: u64,
         keys: *mut u32,
-        keys_length: usize,
+        keys_length: u64,
         payloads: *mut u64,
-        payloads_length: usize,
+        payloads_length: u64,
         lows: *mut u32,
-        lows_length: usize,
+        lows_length: u64,
         highs: *mut u32,
-        highs_length: usize,
+        highs_length: u64,
         snapshot: *mut u32,
-        points: *mut usize,
-        scans: *mut usize,
+        points: *mut u64,
+        scans: *mut u64,
     ) -> u8;
     pub fn emuparasol_write(
         snapshot: u32,
         kinds: *const u8,
-        kinds_length: usize,
+        kinds_length: u64,
         keys: *const u32,
-        keys_length: usize,
+        keys_length: u64,
         payloads: *const u64,
-        payloads_length: usize,
+        payloads_length: u64,
         lows: *const u32,
-        lows_length: usize,
+        lows_length: u64,
         highs: *const u32,
-        highs_length: usize,
+        highs_length: u64,
         output: *mut u8,
-        output_length: usize,
-        size: *mut usize,
+        output_length: u64,
+        size: *mut u64,
     ) -> u8;
-    pub fn emuparasol_cut(log: *const u8, log_length: usize, place: usize, next: *mut usize) -> u8;
+    pub fn emuparasol_cut(log: *const u8, log_length: u64, place: u64, next: *mut u64) -> u8;
 }

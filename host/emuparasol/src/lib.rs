@@ -2,27 +2,14 @@
 //! enum of its answers. `include/emuparasol.h` says what each function answers
 //! and what it leaves behind; `docs/FIRMWARE.md` how they are used together.
 //!
-//! On x86-64 the archive is linked (`direct`). On another processor, where it
-//! cannot be, the same functions go over a process (`bridge`), for tests.
+//! The archive is that of the processor compiled for; `tools/archive` makes it.
 
 mod answer;
-#[cfg(not(target_arch = "x86_64"))]
-mod bridge;
-#[allow(dead_code, missing_docs)]
+pub mod calls;
+#[allow(missing_docs)]
 mod declared;
-// Compiled everywhere, so that it cannot fall behind; linked and called on x86-64 alone.
-#[cfg_attr(not(target_arch = "x86_64"), allow(dead_code))]
-mod direct;
 
 pub use answer::Answer;
-
-/// The nine calls as they are, with lent slices and numbers, and the answers as numbers.
-pub mod calls {
-    #[cfg(not(target_arch = "x86_64"))]
-    pub use crate::bridge::*;
-    #[cfg(target_arch = "x86_64")]
-    pub use crate::direct::*;
-}
 
 /// The bytes of the longest record.
 pub const MOST_RECORD: usize = 905;
@@ -35,6 +22,11 @@ pub const fn pool_bytes(n: u32) -> usize {
 /// The answer of a call; the archive is proved to give no other number.
 fn answered(number: u8) -> Answer {
     Answer::from_number(number).expect("an answer of R3")
+}
+
+/// A length or a place that the archive gave: never past what it was lent.
+fn within(number: u64) -> usize {
+    usize::try_from(number).expect("no more than was lent")
 }
 
 /// Makes the lent bytes a new pool for n keys and zones of z positions: committed,
@@ -96,9 +88,9 @@ pub fn in_force<'a>(answer: Answer, original: &'a [u8], refreshed: &'a [u8]) -> 
     let (mut offset, mut length) = (0, 0);
     let number = answer.number();
     if calls::in_force(number, original, refreshed, &mut offset, &mut length) {
-        &refreshed[offset..][..length]
+        &refreshed[within(offset)..][..within(length)]
     } else {
-        &original[offset..][..length]
+        &original[within(offset)..][..within(length)]
     }
 }
 
@@ -144,8 +136,8 @@ pub fn read(
     Reading {
         answer,
         snapshot,
-        points,
-        scans,
+        points: within(points),
+        scans: within(scans),
     }
 }
 
@@ -172,7 +164,10 @@ pub fn write(
     let answer = answered(calls::write(
         snapshot, kinds, keys, payloads, lows, highs, output, &mut size,
     ));
-    Written { answer, size }
+    Written {
+        answer,
+        size: within(size),
+    }
 }
 
 /// What stands at a place of a log.
@@ -189,8 +184,8 @@ pub enum Cut {
 /// What stands at a place of a log.
 pub fn cut(log: &[u8], place: usize) -> Cut {
     let mut next = 0;
-    match answered(calls::cut(log, place, &mut next)) {
-        Answer::Committed if next > place => Cut::Record(next),
+    match answered(calls::cut(log, place as u64, &mut next)) {
+        Answer::Committed if next > place as u64 => Cut::Record(within(next)),
         Answer::Committed => Cut::End,
         _ => Cut::Broken,
     }

@@ -114,15 +114,17 @@ fn flat_rattle(name: &str, kind: &str) -> Result<Vec<Parameter>, String> {
     let pointer = format!("{pointer} {}", number(element.unwrap_or(lent))?);
     let mut flat = vec![parameter(name, &pointer)];
     if element.is_some() {
-        flat.push(parameter(&format!("{name}_length"), "usize"));
+        flat.push(parameter(&format!("{name}_length"), "u64"));
     }
     Ok(flat)
 }
 
-/// A type that is a number, or none of this interface's.
+/// A type that is a number, or none of this interface's. A place or a length is a
+/// 64-bit number in the proved code, whatever processor it is compiled for.
 fn number(kind: &str) -> Result<&str, String> {
     match kind {
-        "u8" | "u32" | "u64" | "usize" | "bool" => Ok(kind),
+        "usize" => Ok("u64"),
+        "u8" | "u32" | "u64" | "bool" => Ok(kind),
         _ => Err(format!("a type that this interface does not use: {kind}")),
     }
 }
@@ -142,7 +144,6 @@ fn c_parameter(text: &str) -> Result<Parameter, String> {
         "uint8_t" => "u8",
         "uint32_t" => "u32",
         "uint64_t" => "u64",
-        "size_t" => "usize",
         "bool" => "bool",
         other => return Err(format!("a type that this interface does not use: {other}")),
     };

@@ -64,10 +64,10 @@ fn a_changed_header_is_noticed() {
         ),
         (
             "emuparasol_check",
-            "emuparasol_check(const uint8_t *record, size_t record_length)",
+            "emuparasol_check(const uint8_t *record, uint64_t record_length)",
             "emuparasol_check(const uint8_t *record)",
         ),
-        ("emuparasol_cut", "size_t place, ", ""),
+        ("emuparasol_cut", "uint64_t place, ", ""),
         (
             "emuparasol_write",
             "emuparasol_write(",
@@ -146,5 +146,24 @@ fn changed_answers_are_noticed() {
     });
     noticed("BROKEN_LOG", |it| {
         change(&mut it.rattle_answers, "number: 10", "number: 11")
+    });
+}
+
+#[test]
+fn a_length_of_another_width_is_noticed() {
+    // On a 32-bit core `size_t` and `usize` are 32 bits wide; the proved code's lengths are 64.
+    let mut sources = committed();
+    change(
+        &mut sources.header,
+        "uint64_t pool_length",
+        "size_t pool_length",
+    );
+    assert!(sources.differences().is_err());
+    noticed("emuparasol_create", |sources| {
+        change(
+            &mut sources.declared,
+            "pool_length: u64",
+            "pool_length: usize",
+        )
     });
 }

@@ -71,8 +71,13 @@ fn longs(list: &[u64]) -> Guarded<u64> {
 }
 
 /// A number that is lent to be written; what it is before must not matter.
-fn size() -> Guarded<usize> {
-    Guarded::new(&[usize::MAX - 7], 0x5A5A_5A5A)
+fn size() -> Guarded<u64> {
+    Guarded::new(&[u64::MAX - 7], 0x5A5A_5A5A)
+}
+
+/// A number of the archive as a length or a place.
+fn place(number: u64) -> usize {
+    usize::try_from(number).expect("no more than was lent")
 }
 
 /// `create` in these bytes: the answer.
@@ -130,7 +135,7 @@ pub fn in_force(answer: u8, original: &[u8], refreshed: &[u8]) -> (bool, Vec<u8>
     other.same(refreshed);
     assert_eq!(offset.number(), 0);
     let from = if found { refreshed } else { original };
-    (found, from[..length.number()].to_vec())
+    (found, from[..place(length.number())].to_vec())
 }
 
 /// `check`: the answer.
@@ -177,7 +182,12 @@ pub fn read(record: &[u8], lists: &mut Lists) -> (u8, u32, usize, usize) {
         lows: lows.back(),
         highs: highs.back(),
     };
-    (answer, snapshot.number(), points.number(), scans.number())
+    (
+        answer,
+        snapshot.number(),
+        place(points.number()),
+        place(scans.number()),
+    )
 }
 
 /// `write` from these lists: the answer and the size.
@@ -202,15 +212,15 @@ pub fn write(snapshot: u32, lists: &Lists, output: &mut Vec<u8>) -> (u8, usize) 
     lows.same(&lists.lows);
     highs.same(&lists.highs);
     *output = filled.back();
-    (answer, written.number())
+    (answer, place(written.number()))
 }
 
 /// `cut`: the answer and the next place.
-pub fn cut(log: &[u8], place: usize) -> (u8, usize) {
+pub fn cut(log: &[u8], from: usize) -> (u8, usize) {
     let (mut lent, mut next) = (bytes(log), size());
-    let answer = calls::cut(lent.lent(), place, &mut next.lent()[0]);
+    let answer = calls::cut(lent.lent(), from as u64, &mut next.lent()[0]);
     lent.same(log);
-    (answer, next.number())
+    (answer, place(next.number()))
 }
 
 /// A new pool for these limits, in bytes that were anything before.

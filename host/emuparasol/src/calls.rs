@@ -1,18 +1,19 @@
-//! The nine calls with slices and references, straight into the linked archive.
-//! A slice of Rust is never null, a `&mut` overlaps nothing, and that is all the
-//! archive asks (see the head of `include/emuparasol.h`), so each call is sound.
+//! The nine calls as they are, with lent slices and numbers, and the answers as
+//! numbers. A slice of Rust is never null, a `&mut` overlaps nothing, and that is
+//! all the archive asks (see the head of `include/emuparasol.h`), so each call is
+//! sound.
 #![allow(unsafe_code)]
 
 use crate::declared::*;
 
 /// See `emuparasol_create`.
 pub fn create(pool: &mut [u8], n: u32, z: u32) -> u8 {
-    unsafe { emuparasol_create(pool.as_mut_ptr(), pool.len(), n, z) }
+    unsafe { emuparasol_create(pool.as_mut_ptr(), pool.len() as u64, n, z) }
 }
 
 /// See `emuparasol_lookup`.
 pub fn lookup(pool: &[u8], key: u32, payload: &mut u64, position: &mut u32) -> u8 {
-    unsafe { emuparasol_lookup(pool.as_ptr(), pool.len(), key, payload, position) }
+    unsafe { emuparasol_lookup(pool.as_ptr(), pool.len() as u64, key, payload, position) }
 }
 
 /// See `emuparasol_meld`.
@@ -20,9 +21,9 @@ pub fn meld(pool: &mut [u8], record: &[u8], looks: &mut u32) -> u8 {
     unsafe {
         emuparasol_meld(
             pool.as_mut_ptr(),
-            pool.len(),
+            pool.len() as u64,
             record.as_ptr(),
-            record.len(),
+            record.len() as u64,
             looks,
         )
     }
@@ -33,11 +34,11 @@ pub fn refresh(pool: &[u8], original: &[u8], output: &mut [u8]) -> u8 {
     unsafe {
         emuparasol_refresh(
             pool.as_ptr(),
-            pool.len(),
+            pool.len() as u64,
             original.as_ptr(),
-            original.len(),
+            original.len() as u64,
             output.as_mut_ptr(),
-            output.len(),
+            output.len() as u64,
         )
     }
 }
@@ -47,16 +48,16 @@ pub fn in_force(
     answer: u8,
     original: &[u8],
     refreshed: &[u8],
-    offset: &mut usize,
-    length: &mut usize,
+    offset: &mut u64,
+    length: &mut u64,
 ) -> bool {
     unsafe {
         emuparasol_in_force(
             answer,
             original.as_ptr(),
-            original.len(),
+            original.len() as u64,
             refreshed.as_ptr(),
-            refreshed.len(),
+            refreshed.len() as u64,
             offset,
             length,
         )
@@ -65,7 +66,7 @@ pub fn in_force(
 
 /// See `emuparasol_check`.
 pub fn check(record: &[u8]) -> u8 {
-    unsafe { emuparasol_check(record.as_ptr(), record.len()) }
+    unsafe { emuparasol_check(record.as_ptr(), record.len() as u64) }
 }
 
 /// See `emuparasol_read`.
@@ -78,23 +79,23 @@ pub fn read(
     lows: &mut [u32],
     highs: &mut [u32],
     snapshot: &mut u32,
-    points: &mut usize,
-    scans: &mut usize,
+    points: &mut u64,
+    scans: &mut u64,
 ) -> u8 {
     unsafe {
         emuparasol_read(
             record.as_ptr(),
-            record.len(),
+            record.len() as u64,
             kinds.as_mut_ptr(),
-            kinds.len(),
+            kinds.len() as u64,
             keys.as_mut_ptr(),
-            keys.len(),
+            keys.len() as u64,
             payloads.as_mut_ptr(),
-            payloads.len(),
+            payloads.len() as u64,
             lows.as_mut_ptr(),
-            lows.len(),
+            lows.len() as u64,
             highs.as_mut_ptr(),
-            highs.len(),
+            highs.len() as u64,
             snapshot,
             points,
             scans,
@@ -112,29 +113,29 @@ pub fn write(
     lows: &[u32],
     highs: &[u32],
     output: &mut [u8],
-    size: &mut usize,
+    size: &mut u64,
 ) -> u8 {
     unsafe {
         emuparasol_write(
             snapshot,
             kinds.as_ptr(),
-            kinds.len(),
+            kinds.len() as u64,
             keys.as_ptr(),
-            keys.len(),
+            keys.len() as u64,
             payloads.as_ptr(),
-            payloads.len(),
+            payloads.len() as u64,
             lows.as_ptr(),
-            lows.len(),
+            lows.len() as u64,
             highs.as_ptr(),
-            highs.len(),
+            highs.len() as u64,
             output.as_mut_ptr(),
-            output.len(),
+            output.len() as u64,
             size,
         )
     }
 }
 
 /// See `emuparasol_cut`.
-pub fn cut(log: &[u8], place: usize, next: &mut usize) -> u8 {
-    unsafe { emuparasol_cut(log.as_ptr(), log.len(), place, next) }
+pub fn cut(log: &[u8], place: u64, next: &mut u64) -> u8 {
+    unsafe { emuparasol_cut(log.as_ptr(), log.len() as u64, place, next) }
 }
