@@ -9,9 +9,9 @@ enum { KEYS = 3, LINE = 32 };
 static uint8_t pool[EMUPARASOL_POOL_BYTES(KEYS)];
 
 static void print_pool(void) {
-    for (size_t at = 0; at < sizeof pool; at += LINE) {
+    for (uint64_t at = 0; at < sizeof pool; at += LINE) {
         printf("%5lu ", (unsigned long)at);
-        for (size_t i = 0; i < LINE; i++)
+        for (uint64_t i = 0; i < LINE; i++)
             printf(" %02X", (unsigned)pool[at + i]);
         printf("\n");
     }
@@ -24,10 +24,10 @@ static void start(uint32_t zone) {
 }
 
 /* Melds a record without scans, and expects this answer. */
-static void meld(uint32_t snapshot, size_t points, const uint8_t *kinds, const uint32_t *keys, const uint64_t *payloads, uint8_t expected) {
+static void meld(uint32_t snapshot, uint64_t points, const uint8_t *kinds, const uint32_t *keys, const uint64_t *payloads, uint8_t expected) {
     uint8_t record[EMUPARASOL_MOST_RECORD];
     const uint32_t none = 0;
-    size_t size;
+    uint64_t size;
     uint32_t looks;
     emuparasol_write(snapshot, kinds, points, keys, points, payloads, points, &none, 0, &none, 0, record, sizeof record, &size);
     if (emuparasol_meld(pool, sizeof pool, record, size, &looks) != expected)

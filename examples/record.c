@@ -5,38 +5,38 @@
 #include "emuparasol.h"
 
 static uint8_t file[64];
-static size_t length;
+static uint64_t length;
 
 /* A record with one point and at most one scan, behind what is there. */
-static void append(uint32_t snapshot, uint8_t kind, uint32_t key, uint64_t payload, uint32_t low, uint32_t high, size_t scans) {
-    size_t size;
+static void append(uint32_t snapshot, uint8_t kind, uint32_t key, uint64_t payload, uint32_t low, uint32_t high, uint64_t scans) {
+    uint64_t size;
     unsigned answer = emuparasol_write(snapshot, &kind, 1, &key, 1, &payload, 1, &low, scans, &high, scans, file + length, sizeof file - length, &size);
     printf("write: answer %u, %lu bytes:", answer, (unsigned long)size);
-    for (size_t i = 0; i < size; i++)
+    for (uint64_t i = 0; i < size; i++)
         printf(" %02X", (unsigned)file[length + i]);
     printf("\n");
     length += size;
 }
 
 /* What is in the bytes of one record. */
-static void show(const uint8_t *record, size_t size) {
+static void show(const uint8_t *record, uint64_t size) {
     uint8_t kinds[EMUPARASOL_MOST_POINTS];
     uint32_t keys[EMUPARASOL_MOST_POINTS], lows[EMUPARASOL_MOST_SCANS], highs[EMUPARASOL_MOST_SCANS], snapshot;
     uint64_t payloads[EMUPARASOL_MOST_POINTS];
-    size_t points, scans;
+    uint64_t points, scans;
     printf("check: answer %u\n", (unsigned)emuparasol_check(record, size));
     unsigned answer = emuparasol_read(record, size, kinds, EMUPARASOL_MOST_POINTS, keys, EMUPARASOL_MOST_POINTS, payloads, EMUPARASOL_MOST_POINTS,
                                       lows, EMUPARASOL_MOST_SCANS, highs, EMUPARASOL_MOST_SCANS, &snapshot, &points, &scans);
     printf("read: answer %u, snapshot %lu, %lu points, %lu scans\n", answer, (unsigned long)snapshot, (unsigned long)points, (unsigned long)scans);
-    for (size_t i = 0; i < points; i++)
+    for (uint64_t i = 0; i < points; i++)
         printf("point: kind %u, key %lu, payload %lu\n", (unsigned)kinds[i], (unsigned long)keys[i], (unsigned long)payloads[i]);
-    for (size_t i = 0; i < scans; i++)
+    for (uint64_t i = 0; i < scans; i++)
         printf("scan: %lu to %lu\n", (unsigned long)lows[i], (unsigned long)highs[i]);
 }
 
 /* The records of the first bytes of the file, one after the other, and how they end. */
-static void walk(size_t bytes) {
-    size_t place = 0, next;
+static void walk(uint64_t bytes) {
+    uint64_t place = 0, next;
     unsigned answer;
     while ((answer = emuparasol_cut(file, bytes, place, &next)) == EMUPARASOL_COMMITTED && next != place) {
         printf("record from %lu to %lu\n", (unsigned long)place, (unsigned long)next);
