@@ -18,9 +18,9 @@ use Rattle.put.specs.declared.value.Value.{Value}
 use Rattle.put.specs.declared.value.Value.the-variants.{Live, Tombstone}
 use Rattle.put.specs.Storing.{putIn}
 
--- the point of a kind, a key and a payload
+-- the point of a kind, a key and a payload (R5): 2 is a put, 3 a delete; anything else is passed over like a read (R22)
 abbrev pub pointFrom : ℕ → ℕ → ℕ → Point
-pointFrom kind k x = if eqb kind 1 then Read k else if eqb kind 2 then Put k x else Delete k
+pointFrom kind k x = if eqb kind 2 then Put k x else if eqb kind 3 then Delete k else Read k
 
 -- the points of three lists
 unfoldable pub pointsIn : List ℕ → List ℕ → List ℕ → List Point

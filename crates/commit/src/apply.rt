@@ -7,17 +7,17 @@ ghost use lib.ListN.{length};
 ghost use Rattle.pool.specs.Image.{Arrangement, Image};
 ghost use Rattle.commit.specs.Applied.{pointFrom, valueOf, Applicable, Applies};
 
-// The point that a kind, a key and a payload name.
+// The point that a kind, a key and a payload name: 2 is a put, 3 a delete, and anything else is passed over like a read.
 fn point_of(kind: u8, key: u32, payload: u64) -> Point
     ensures { λ r. ⌜ r ≡ pointFrom kind key payload ⌝ }
 {
-    if kind == 1 {
-        return Point::Read(key);
-    }
     if kind == 2 {
         return Point::Put(key, payload);
     }
-    Point::Delete(key)
+    if kind == 3 {
+        return Point::Delete(key);
+    }
+    Point::Read(key)
 }
 
 // What a point stores: a put its payload, a delete a tombstone.

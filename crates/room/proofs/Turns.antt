@@ -1,8 +1,8 @@
 -- The turns of the loop that tallies points: what is counted so far and what the points from i on add make the whole.
 -- Assumes nothing.
 use Prim.Native.Nat.{ℕ, _+_, _^_, _≤_, _<_}
-use mathlib.Core.Path.{_≡_, refl}
-use mathlib.Core.Bool.{Bool, true, false}
+use mathlib.Core.Path.{_≡_, refl, ap}
+use mathlib.Core.Bool.{Bool, true, false, not}
 use mathlib.Core.List.{List}
 use native.Mathlib.Omega.{arith}
 use native.Mathlib.Numerals.{add-one}
@@ -12,12 +12,13 @@ use lib.Dec.{eqb, leb}
 use borrow.Author.Tests.{le-leb, lt-leb, eq-eqb, ne-eqb}
 use Rattle.words.specs.Choice.{if_then_else_}
 use Rattle.rules.specs.State.{Entry}
+use Rattle.pool.specs.Times.{bit}
 use Rattle.pool.specs.Image.{Arrangement, Image, Fit, stateOf}
 use Rattle.find.specs.declared.Found.{Found}
 use Rattle.find.specs.declared.Found.the-variants.{Absent, Live, Tombstone}
 use Rattle.find.specs.Found.{foundIn}
 use Rattle.room.specs.declared.tally.Tally.{Tally}
-use Rattle.room.specs.Tally.{oneIfAbsent, oneIfRevived, adds, tallyOf, Tallied, TallyIs}
+use Rattle.room.specs.Tally.{oneIfAbsent, oneIfRevived, writesAs, adds, tallyOf, Tallied, TallyIs}
 
 -- ONE KEY
 
@@ -27,13 +28,15 @@ one-old w limit f e h = rw (e, le-leb w limit h) (refl, refl)
 pub one-young : (w limit : ℕ) (f : Found) → f ≡ Tombstone w → limit < w → (0 ≡ oneIfAbsent f) × (0 ≡ oneIfRevived limit f)
 one-young w limit f e h = rw (e, lt-leb w limit h) (refl, refl)
 
-pub point-read : (m : List ℕ) (kind k limit : ℕ) → kind ≡ 1 → (A : Arrangement) → Image m A → Tallied kind k limit (stateOf A .kept) (record { absent = 0; revived = 0 })
-point-read m kind k limit e A i = record { absent-is = rw (eq-eqb kind 1 e); revived-is = rw (eq-eqb kind 1 e) }
+pub passed-over : (m : List ℕ) (kind k limit : ℕ) (b : Bool) → b ≡ writesAs kind → not b ≡ true → (A : Arrangement) → Image m A
+    → Tallied kind k limit (stateOf A .kept) (record { absent = 0; revived = 0 })
+passed-over m kind k limit true e h A i = absurd (omega (arith, ap bit h))
+passed-over m kind k limit false e h A i = record { absent-is = rw (← e); revived-is = rw (← e) }
 
-pub point-written : (m : List ℕ) (kind k limit : ℕ) (f : Found) (r : Tally) → (kind ≡ 1 → ⊥) → ((A : Arrangement) → Image m A → f ≡ foundIn k (stateOf A .kept))
+pub point-written : (m : List ℕ) (kind k limit : ℕ) (b : Bool) (f : Found) (r : Tally) → b ≡ writesAs kind → not b ≡ false → ((A : Arrangement) → Image m A → f ≡ foundIn k (stateOf A .kept))
     → (r .absent ≡ oneIfAbsent f) × (r .revived ≡ oneIfRevived limit f) → (A : Arrangement) → Image m A → Tallied kind k limit (stateOf A .kept) r
-point-written m kind k limit f r d e q A i =
-    record { absent-is = rw (ne-eqb kind 1 d, ← (e A i)) (q .0); revived-is = rw (ne-eqb kind 1 d, ← (e A i)) (q .1) }
+point-written m kind k limit true f r d h e q A i = record { absent-is = rw (← d, ← (e A i)) (q .0); revived-is = rw (← d, ← (e A i)) (q .1) }
+point-written m kind k limit false f r d h e q A i = absurd (omega (arith, ap bit h))
 
 -- at most one each
 pub small-absent : (f : Found) → oneIfAbsent f ≤ 1
@@ -51,11 +54,11 @@ small-revived limit (Tombstone w) = go (leb w limit)
     go false = omega arith
 
 pub small-adds : (f : Found → ℕ) → ((x : Found) → f x ≤ 1) → (kind k : ℕ) (es : List Entry) → adds f kind k es ≤ 1
-small-adds f h kind k es = go (eqb kind 1)
+small-adds f h kind k es = go (writesAs kind)
   where
-    go : (b : Bool) → (if b then 0 else f (foundIn k es)) ≤ 1
-    go true = omega arith
-    go false = h (foundIn k es)
+    go : (b : Bool) → (if b then f (foundIn k es) else 0) ≤ 1
+    go true = h (foundIn k es)
+    go false = omega arith
 
 -- THE LOOP
 

@@ -2,6 +2,7 @@
 -- Assumes nothing: these are definitions.
 use Prim.Native.Nat.{ℕ, _+_}
 use mathlib.Core.Path.{_≡_}
+use mathlib.Core.Bool.{Bool, _||_}
 use mathlib.Core.List.{List, [], _∷_}
 use lib.Dec.{leb, eqb}
 use Rattle.words.specs.Choice.{if_then_else_}
@@ -23,9 +24,13 @@ oneIfRevived limit Absent = 0
 oneIfRevived limit (Live x w) = 0
 oneIfRevived limit (Tombstone w) = if leb w limit then 1 else 0
 
--- what a point of a kind adds: a read writes nothing
+-- a point of this kind writes its key: a put or a delete does, anything else is passed over (R22)
+abbrev pub writesAs : ℕ → Bool
+writesAs kind = eqb kind 2 || eqb kind 3
+
+-- what a point of a kind adds
 abbrev pub adds : (Found → ℕ) → ℕ → ℕ → List Entry → ℕ
-adds f kind k es = if eqb kind 1 then 0 else f (foundIn k es)
+adds f kind k es = if writesAs kind then f (foundIn k es) else 0
 
 -- what points add, given as kinds and keys
 unfoldable pub tallyOf : (Found → ℕ) → List ℕ → List ℕ → List Entry → ℕ

@@ -5,7 +5,7 @@ ghost use mathlib.Core.Path.{_≡_};
 ghost use Prim.Native.Nat.{_≤_};
 ghost use lib.ListN.{length};
 ghost use Rattle.pool.specs.Image.{Arrangement, Image, Fit, stateOf};
-ghost use Rattle.room.specs.Tally.{oneIfAbsent, oneIfRevived, Tallied, TallyIs};
+ghost use Rattle.room.specs.Tally.{oneIfAbsent, oneIfRevived, writesAs, Tallied, TallyIs};
 
 pub struct Tally {
     // Keys that are not kept.
@@ -46,12 +46,22 @@ fn tally_one(found: Found, limit: u32) -> Tally
     }
 }
 
-// What a point adds: nothing if it is a read.
+// Whether a point of this kind writes its key: a put or a delete does.
+fn writes_as(kind: u8) -> bool
+    ensures { λ r. ⌜ r ≡ writesAs kind ⌝ }
+{
+    if kind == 2 {
+        return true;
+    }
+    kind == 3
+}
+
+// What a point adds: nothing if it is neither a put nor a delete.
 fn tally_point(pool: &[u8], kind: u8, key: u32, limit: u32) -> Tally
     requires { ⌜ Fit (now pool) ⌝ }
     ensures { λ r. ⌜ ((A : Arrangement) → Image (now (pool .entry)) A → Tallied kind key limit (stateOf A .kept) r) ⌝ }
 {
-    if kind == 1 {
+    if !writes_as(kind) {
         return Tally {
             absent: 0,
             revived: 0,
