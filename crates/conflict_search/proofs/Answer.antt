@@ -1,4 +1,4 @@
--- What the walk's answer means for a fit pool's arrangement: a leaf is named exactly if document 01's walk finds the conflict, and the
+-- What the walk's answer means for a fit pool's arrangement: a leaf is named exactly if the search of R35 finds the conflict, and the
 -- leaf named is hit.
 -- Assumes nothing.
 use Prim.Native.Nat.{ℕ, _+_, _*_, _≤_}
@@ -76,7 +76,7 @@ same-walk {m} {A} r x =
     ap (λ (f : List Scan). walk (r .snapshot) f (treeOr (A .tree))) (footprint-reach r)
     ∙ ap (λ (t : Tree). walk (r .snapshot) (reach r) t) (x .arranged .shape)
 
--- the looks are those of document 01's walk
+-- the looks are those of R35
 pub looks-walk : {m : List ℕ} {A : Arrangement} (r : Rec) → Image m A → conflictOf A r .looks ≡ walkOf (stateOf A) (some r) .looks
 looks-walk r x = ap (λ (w : rules.Walked). w .looks) (same-walk r x)
 
@@ -86,7 +86,7 @@ named-conflicts {m} {A} r x =
     named-found (r .snapshot) (footprint (map keyOf (r .points)) (map lowOf (r .scans)) (map highOf (r .scans))) x
     ∙ ap (λ (w : rules.Walked). w .found) (same-walk r x) ∙ walk-conflicts r (x .arranged .lawful)
 
--- "never exceed 65 + 64·(points + 2·scans)"
+-- R37
 pub looks-few : {m : List ℕ} {A : Arrangement} {r : Rec} → Image m A → Valid r → conflictOf A r .looks ≤ 65 + 64 * (length (r .points) + 2 * length (r .scans))
 looks-few {m} {A} {r} x v = rw (looks-walk r x, ← (marks-length r))
     (looks-bound (r .snapshot) (reach r) (marksOf r) (marks-marked r (apart-ordered 0 (r .scans) (v .apart))) (treeOf-canonical 32 0 (x .arranged .lawful .rising)))

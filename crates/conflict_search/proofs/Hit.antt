@@ -1,4 +1,4 @@
--- The leaf that is the conflict: the first one that is hit. There is one exactly if document 01's walk finds one.
+-- The leaf that is the conflict: the first one that is hit. There is one exactly if the search of R35 finds one.
 -- Assumes nothing.
 use Prim.Native.Nat.{ℕ}
 use native.Mathlib.Omega.{arith}

@@ -1,4 +1,4 @@
--- Document 01's walk at a tree of the pool, by what the words of its root say.
+-- The search of R35 at a tree of the pool, by what the words of its root say.
 -- Assumes nothing.
 use Prim.Native.Nat.{ℕ, suc, _+_, _^_, _≤_, _<_}
 use native.Mathlib.Omega.{arith}

@@ -1,4 +1,4 @@
--- What the walk answers: which leaf is the conflict, and the looks of document 01's walk.
+-- What the walk answers: which leaf is the conflict, and the looks of the search (R35).
 -- Assumes nothing: these are definitions.
 use Prim.Native.Nat.{ℕ}
 use mathlib.Core.List.{List, [], _∷_, _++_}
@@ -32,6 +32,6 @@ unfoldable pub firstHit : ℕ → List Scan → List Leaf → ℕ
 firstHit s f [] = noNode
 firstHit s f (x ∷ xs) = if hits s f (x .entry) then x .number else firstHit s f xs
 
--- that leaf, and how many nodes document 01's walk looks at
+-- that leaf, and how many nodes the search looks at
 abbrev pub conflictIn : ℕ → List Scan → Option Plan → Searched
 conflictIn s f t = record { leaf = firstHit s f (leavesOr t); looks = walk s f (treeOr t) .looks }

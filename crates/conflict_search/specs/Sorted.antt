@@ -4,12 +4,12 @@ use Prim.Native.Nat.{ℕ, _+_, _≤_}
 use mathlib.Core.List.{List, [], _∷_, _++_, map}
 use Rattle.record.specs.declared.point.Scan.{Scan}
 
--- "Point keys rise strictly": from low on
+-- R6: keys rise strictly, from low on
 pub data Climbs : ℕ → List ℕ → Type 0 where
   end : {low : ℕ} → Climbs low []
   link : {low k : ℕ} {ks : List ℕ} → low ≤ k → Climbs (k + 1) ks → Climbs low (k ∷ ks)
 
--- "A scan has low ≤ high ..; each scan's low is above the high before it": from low on
+-- R7: each low is at most its high and above the high before it, from low on
 pub data Spaced : ℕ → List ℕ → List ℕ → Type 0 where
   end : {low : ℕ} → Spaced low [] []
   link : {low l h : ℕ} {ls hs : List ℕ} → low ≤ l → l ≤ h → Spaced (h + 1) ls hs → Spaced low (l ∷ ls) (h ∷ hs)

@@ -1,4 +1,4 @@
--- A new pool: "A new pool has p = 0 and no keys; creating it answers 0 and fixes every byte" (document 01, "The state").
+-- A new pool, every byte of it (R18).
 -- Assumes nothing: these are definitions.
 use Prim.Native.Nat.{ℕ, zero, suc, _+_, _*_}
 use mathlib.Core.Path.{_≡_}
@@ -11,20 +11,20 @@ use Rattle.record.specs.Answer.{committed, badLimits}
 use Rattle.record.specs.declared.answer.Answer.{Answer}
 use Rattle.pool.specs.Image.{Arrangement, Image}
 
--- so many numbers, from i on
+-- so many numbers, from i on (R18)
 unfoldable pub upFrom : ℕ → ℕ → List ℕ
 upFrom i zero = []
 upFrom i (suc k) = i ∷ upFrom (suc i) k
 
--- no tree, and all nodes free in the order of their numbers
+-- R18: no tree, and all nodes free in the order of their numbers
 abbrev pub freshPlan : ℕ → ℕ → Arrangement
 freshPlan n z = record { N = n; Z = z; p = 0; tree = none; free = upFrom 0 (2 * n) }
 
--- row 9: "N or Z outside its range, or pool not exactly 64 + 64·N bytes"
+-- R18: N and Z are in range, and the pool has exactly 64 + 64·N bytes
 unfoldable pub limitsOk : ℕ → ℕ → ℕ → Bool
 limitsOk n z size = leb 1 n && (leb n 65536 && (leb 1 z && (leb z 4096 && eqb size (64 + 64 * n))))
 
--- what creation promises of the bytes m that are lent, its answer r and the bytes m′ left behind
+-- R18: what creation promises of the bytes m that are lent, its answer r and the bytes m′ left behind
 pub record Created (m : List ℕ) (n z : ℕ) (r : Answer) (m′ : List ℕ) : Type 0 where
   pub made : limitsOk n z (length m) ≡ true → (r ≡ committed) × Image m′ (freshPlan n z)
   pub refused : limitsOk n z (length m) ≡ false → (r ≡ badLimits) × (m′ ≡ m)

@@ -3,7 +3,7 @@
 -- name under which the logic tracks a slice stays open, and no program sees it.
 -- Assumes nothing.
 use Prim.Native.Nat.{ℕ}
-use mathlib.Core.Path.{_≡_, sym, _∙_}
+use mathlib.Core.Path.{_≡_, sym, ap, _∙_}
 use mathlib.Core.Bool.{Bool}
 use mathlib.Core.List.{List, [], _∷_, map}
 use denote.Ref.{RefT}
@@ -11,12 +11,13 @@ use Rattle.words.specs.Word.{Bytes}
 use Rattle.record.specs.declared.answer.Answer.{Answer}
 use Rattle.record.specs.declared.point.Point.{Point}
 use Rattle.record.specs.declared.point.Scan.{Scan}
-use Rattle.record.specs.Record.{kindOf, keyOf, payloadOf}
-use Rattle.record.specs.Parse.{parse, checkOf}
-use Rattle.record.specs.Reader.{Lists, lists, lowOf, highOf, readOf}
-use Rattle.record.specs.Reader as Reader
-use Rattle.writer.specs.Writer.{recordOf, writeOf}
-use Rattle.writer.specs.Writer as Writer
+use Rattle.record.specs.declared.reader.Reading.{Reading}
+use Rattle.record.specs.Record.{kindOf, keyOf, payloadOf, KindIs, KeyIs, PayloadIs}
+use Rattle.record.specs.Parse.{parse, checkOf, Checked}
+use Rattle.record.specs.Reader.{Lists, lists, lowOf, highOf, ReadOutcome, readOutcome, ReadsAs}
+use Rattle.writer.specs.declared.Written.{Written}
+use Rattle.writer.specs.Writer.{WriteOutcome, writeOutcome, WritesAs}
+use Rattle.pairs.specs.Pairs.{PairsWritten, OneWritten}
 use Rattle.log.specs.declared.found.Cut.{Cut}
 use Rattle.log.specs.Log.{CutIs, HandedOut, SameSlice}
 use Rattle.log.proofs.Only.{only-cut, only-part}
@@ -47,36 +48,42 @@ use Rattle.demands.specs.Answers.{OneAnswer}
 pub one-if-equal : {A : Type 0} (z : A) → OneAnswer (λ (x : A). x ≡ z)
 one-if-equal z x y e f = e ∙ sym f
 
-pub check-one : (bytes : List ℕ) → OneAnswer (λ (a : Answer). a ≡ checkOf (parse bytes))
+pub check-one : (bytes : List ℕ) → OneAnswer (Checked bytes)
 check-one bytes = one-if-equal (checkOf (parse bytes))
 
-pub read-one : (bytes : List ℕ) (before : Lists) → OneAnswer (λ (o : Reader.ReadOutcome). o ≡ readOf (parse bytes) before)
-read-one bytes before = one-if-equal (readOf (parse bytes) before)
+pub kind-one : (q : Point) → OneAnswer (KindIs q)
+kind-one q = one-if-equal (kindOf q)
 
-pub kind-one : (p : Point) → OneAnswer (λ (n : ℕ). n ≡ kindOf p)
-kind-one p = one-if-equal (kindOf p)
+pub key-one : (q : Point) → OneAnswer (KeyIs q)
+key-one q = one-if-equal (keyOf q)
 
-pub key-one : (p : Point) → OneAnswer (λ (n : ℕ). n ≡ keyOf p)
-key-one p = one-if-equal (keyOf p)
-
-pub payload-one : (p : Point) → OneAnswer (λ (n : ℕ). n ≡ payloadOf p)
-payload-one p = one-if-equal (payloadOf p)
-
-pub write-one : (snapshot : ℕ) (l : Lists) (before : List ℕ) → OneAnswer (λ (o : Writer.WriteOutcome). o ≡ writeOf (recordOf snapshot l) before)
-write-one snapshot l before = one-if-equal (writeOf (recordOf snapshot l) before)
-
-pub write-pairs-one : (snapshot : ℕ) (ks es xs : List ℕ) (cs : List Scan) (before : List ℕ)
-    → OneAnswer (λ (o : Writer.WriteOutcome). o ≡ writeOf (recordOf snapshot (lists ks es xs (map lowOf cs) (map highOf cs))) before)
-write-pairs-one snapshot ks es xs cs before = one-if-equal (writeOf (recordOf snapshot (lists ks es xs (map lowOf cs) (map highOf cs))) before)
-
-pub write-single-one : (snapshot : ℕ) (ks es xs : List ℕ) (c : Scan) (before : List ℕ)
-    → OneAnswer (λ (o : Writer.WriteOutcome). o ≡ writeOf (recordOf snapshot (lists ks es xs (c .low ∷ []) (c .high ∷ []))) before)
-write-single-one snapshot ks es xs c before = one-if-equal (writeOf (recordOf snapshot (lists ks es xs (c .low ∷ []) (c .high ∷ []))) before)
+pub payload-one : (q : Point) → OneAnswer (PayloadIs q)
+payload-one q = one-if-equal (payloadOf q)
 
 pub place-one : (reader : LogReader) → OneAnswer (λ (n : ℕ). PlaceIs reader n)
 place-one reader = one-if-equal (reader .place)
 
 -- WHERE IT IS MORE
+
+-- the reading and all five lists
+pub read-one : (bytes : List ℕ) (before : Lists) → OneAnswer (λ (x : Reading × Lists). ReadsAs bytes before (x .0) (x .1))
+read-one bytes before x y p q =
+    let e : readOutcome (x .0) (x .1) ≡ readOutcome (y .0) (y .1) = p ∙ sym q in
+    λ i. (ap (λ (o : ReadOutcome). o .reading) e i, ap (λ (o : ReadOutcome). o .left) e i)
+
+-- what is given back and the whole output
+pub write-one : (snapshot : ℕ) (l : Lists) (before : List ℕ) → OneAnswer (λ (x : Written × List ℕ). WritesAs snapshot l before (x .0) (x .1))
+write-one snapshot l before x y p q =
+    let e : writeOutcome (x .0) (x .1) ≡ writeOutcome (y .0) (y .1) = p ∙ sym q in
+    λ i. (ap (λ (o : WriteOutcome). o .written) e i, ap (λ (o : WriteOutcome). o .left) e i)
+
+pub write-pairs-one : (snapshot : ℕ) (ks es xs : List ℕ) (cs : List Scan) (before : List ℕ)
+    → OneAnswer (λ (x : Written × List ℕ). PairsWritten snapshot ks es xs cs before (x .0) (x .1))
+write-pairs-one snapshot ks es xs cs before = write-one snapshot (lists ks es xs (map lowOf cs) (map highOf cs)) before
+
+pub write-single-one : (snapshot : ℕ) (ks es xs : List ℕ) (c : Scan) (before : List ℕ)
+    → OneAnswer (λ (x : Written × List ℕ). OneWritten snapshot ks es xs c before (x .0) (x .1))
+write-single-one snapshot ks es xs c before = write-one snapshot (lists ks es xs (c .low ∷ []) (c .high ∷ [])) before
 
 -- the log lent, the same slice, and the place
 pub new-one : (log : RefT (List ℕ)) → OneAnswer (λ (r : LogReader). Opened log r)

@@ -1,4 +1,4 @@
--- The fakes of document 01 keep no promise: for each, a small pool on which it would have to answer otherwise.
+-- The fakes of R43 keep no promise: for each, a small pool on which it would have to answer otherwise.
 -- Assumes nothing.
 use Prim.Native.Nat.{ℕ}
 use mathlib.Core.Path.{_≡_, refl, sym, ap, _∙_, subst}

@@ -65,7 +65,7 @@ module _ (N Z : ℕ) (log : List ℕ) (lent : Bytes log) (parts : List (List ℕ
       subst (λ (l : List (Option Rec)). Means m (after (fresh N Z) l)) (map-take parse q parts) (pool-means N Z log lent parts last w at-q)
 
   module _ (bytes : List ℕ) (b : Bytes bytes) (m′ : List ℕ) (x : Melded) (h : Melds m bytes m′ x) where
-    -- a record commits exactly if it passes the checks of document 01's table
+    -- a record commits exactly if it passes the checks of R23
     pub commits-exactly-on-bytes : (x .answer ≡ Names.committed) ↔ Passes N Z (map parse (take q parts)) (parse bytes)
     commits-exactly-on-bytes =
         let e = ap (λ (y : Melded). y .answer) (meld-means (after (fresh N Z) past) past-means b h .0) in

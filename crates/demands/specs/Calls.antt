@@ -23,7 +23,7 @@ pub data Call : List ℕ → List ℕ → Type 0 where
   meld : {m m′ : List ℕ} (bytes : List ℕ) (x : Melded) → Bytes bytes → Melds m bytes m′ x → Call m m′
   refresh : {m : List ℕ} (original before after : List ℕ) (a : Answer) → Bytes original → Bytes before → RefreshIs m original before a after → Call m m
 
--- zero or more calls, one after the other
+-- R20: zero or more calls, one after the other
 pub data Calls : List ℕ → List ℕ → Type 0 where
   none-more : {m : List ℕ} → Calls m m
   one-more : {m m′ m″ : List ℕ} → Call m m′ → Calls m′ m″ → Calls m m″

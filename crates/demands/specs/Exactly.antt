@@ -32,7 +32,7 @@ pub record Row6 (m : List ℕ) : Type 0 where
   pub means : Means m S
   pub used-up : S .p ≡ lastPosition
 
--- neither 7 nor 6: the pool means state S, and a position is left
+-- R23: neither 7 nor 6: the pool means state S, and a position is left
 pub record PositionLeft (m : List ℕ) (S : State) : Type 0 where
   pub means : Means m S
   pub left : S .p < lastPosition
@@ -43,7 +43,7 @@ pub record Row4 (m bytes : List ℕ) : Type 0 where
   pub above : PositionLeft m S
   pub malformed : parse bytes ≡ none
 
--- none of 7, 6 and 4: the bytes are the record r
+-- R23: none of 7, 6 and 4: the bytes are the record r
 pub record Formed (m bytes : List ℕ) (S : State) (r : Rec) : Type 0 where
   pub above : PositionLeft m S
   pub well-formed : parse bytes ≡ some r
@@ -63,7 +63,7 @@ pub record Row2 (m bytes : List ℕ) : Type 0 where
   pub not-ahead : r .snapshot ≤ S .p
   pub too-old : S .Z < S .p - r .snapshot
 
--- none of 7, 6, 4, 5 and 2
+-- R23: none of 7, 6, 4, 5 and 2
 pub record InZone (m bytes : List ℕ) (S : State) (r : Rec) : Type 0 where
   pub above : Formed m bytes S r
   pub not-ahead : r .snapshot ≤ S .p
@@ -94,11 +94,11 @@ pub record Row0 (m bytes : List ℕ) : Type 0 where
 
 -- THE TABLE
 
--- 4, 5, 2, 1 or 3
+-- R29: 4, 5, 2, 1 or 3
 abbrev pub UsesPosition : Answer → Type 0
 UsesPosition a = (a ≡ Names.malformed) ⊎ ((a ≡ Names.ahead) ⊎ ((a ≡ Names.tooOld) ⊎ ((a ≡ Names.conflict) ⊎ (a ≡ Names.noRoom))))
 
--- a meld of bytes into a pool m has answered a and left the pool m′
+-- R23, R29: a meld of bytes into a pool m has answered a and left the pool m′
 pub record MeldExactly (m bytes m′ : List ℕ) (a : Answer) : Type 0 where
   -- "exactly when"
   pub unfit-pool : (a ≡ Names.unfitPool) ↔ Row7 m

@@ -1,4 +1,4 @@
--- Document 01, "What the promises have to say": the fakes to try. A library here is any functions of the bytes lent that keep the promises.
+-- The fakes that no promise lets pass (R43). A library here is any functions of the bytes lent that keep the promises.
 -- Assumes nothing: these are definitions.
 use Prim.Native.Nat.{ℕ, _+_, _≤_, _<_}
 use mathlib.Core.Path.{_≡_}
@@ -18,7 +18,7 @@ use Rattle.meld.specs.Melds.{Melds, meldedOf}
 use Rattle.refresh.specs.Refreshed.{RefreshIs}
 use Rattle.demands.specs.Runs.{Means}
 
--- creation, lookup, meld and refresh: each answers, and leaves the bytes that it may change so; each keeps its promise, for any bytes
+-- R43: creation, lookup, meld and refresh: each answers, and leaves the bytes that it may change so; each keeps its promise, for any bytes
 pub record Library : Type 0 where
   pub create : List ℕ → ℕ → ℕ → Answer × List ℕ
   pub lookup : List ℕ → ℕ → Lookup
@@ -30,40 +30,40 @@ pub record Library : Type 0 where
   pub refresh-keeps : (m original output : List ℕ) → Bytes m → Bytes original → Bytes output
       → RefreshIs m original output (refresh m original output .0) (refresh m original output .1)
 
--- "a meld that always refuses" (R43), whatever bytes are lent as pool and as record; so for the others
+-- R43: a meld that never says 0
 abbrev pub AlwaysRefuses : Library → Type 0
 AlwaysRefuses L = (m bytes : List ℕ) → Bytes m → Bytes bytes → L .meld m bytes .0 .answer ≡ committed → ⊥
 
--- "or always says 0"
+-- R43: a meld that always says 0
 abbrev pub AlwaysCommits : Library → Type 0
 AlwaysCommits L = (m bytes : List ℕ) → Bytes m → Bytes bytes → L .meld m bytes .0 .answer ≡ committed
 
--- "one that stores nothing": every lookup sees what it saw before
+-- R43: a meld that stores nothing: every lookup sees what it saw before
 abbrev pub StoresNothing : Library → Type 0
 StoresNothing L = (m bytes : List ℕ) (k : ℕ) → Bytes m → Bytes bytes → L .lookup (L .meld m bytes .1) k ≡ L .lookup m k
 
--- the state with its position moved on by one, and nothing else changed
+-- R29: the state with its position moved on by one, and nothing else changed
 abbrev pub advanced : State → State
 advanced S = record { N = S .N; Z = S .Z; p = S .p + 1; kept = S .kept }
 
--- "decides position 1 honestly and only advances later ones"
+-- R43: a meld that decides position 1 and only counts on after it
 pub record OnlyFirst (L : Library) : Type 0 where
   -- the record at position 1 gets the rules' answer and looks
   pub honest : (m bytes : List ℕ) (S : State) → Means m S → Bytes bytes → S .p ≡ 0 → L .meld m bytes .0 ≡ meldedOf S (parse bytes)
   -- any later one moves the position on, and that is all
   pub advances : (m bytes : List ℕ) (S : State) → Means m S → Bytes bytes → 1 ≤ S .p → S .p < lastPosition → Means (L .meld m bytes .1) (advanced S)
 
--- "A refresh that copies its record"
+-- R43: a refresh that only copies its record
 abbrev pub Copies : Library → Type 0
 Copies L =
     (m original output : List ℕ) → Bytes m → Bytes original → Bytes output → L .refresh m original output .0 ≡ committed
     → take (length original) (L .refresh m original output .1) ≡ original
 
--- "or always says 5"
+-- R43: a refresh that always says 5
 abbrev pub AlwaysAhead : Library → Type 0
 AlwaysAhead L = (m original output : List ℕ) → Bytes m → Bytes original → Bytes output → L .refresh m original output .0 ≡ ahead
 
--- "Invented looks": other than the looks of the walk, on some pool that means a state
+-- R43: looks other than those of the search, on some pool that means a state
 pub record InventsLooks (L : Library) : Type 0 where
   pub m : List ℕ
   pub bytes : List ℕ

@@ -13,24 +13,23 @@ use Rattle.rules.specs.Log.{after, stateAt}
 use Rattle.meld.specs.declared.melding.Melded.{Melded}
 use Rattle.demands.specs.Runs.{Means, verdicts}
 
--- of the parts that a log hands out the card has melded the first: for each the rules' answer and looks, and the pool is the image of
+-- R20: of the parts that a log hands out the card has melded the first: for each the rules' answer and looks, and the pool is the image of
 -- the rules' state after them
 pub record Follows (N Z : ℕ) (parts : List (List ℕ)) (xs : List Melded) (m : List ℕ) : Type 0 where
   pub few : length xs ≤ length parts
   pub answers : xs ≡ verdicts (fresh N Z) (take (length xs) parts)
   pub means : Means m (stateAt N Z (map parse parts) (length xs))
 
--- a whole log melded: the walk over it hands out some parts and ends so; for each part the rules' answer and looks, and the pool is the
--- image of the rules' state after all of them
+-- R20: a whole log melded: its steps hand out some parts and end so; for each part the rules' answer and looks, and the pool is the image of
+-- the rules' state after all of them
 pub record FollowsWhole (N Z : ℕ) (log : List ℕ) (xs : List Melded) (last : Cut) (m : List ℕ) : Type 0 where
   pub parts : List (List ℕ)
   pub walks : Walks log 0 parts last
   pub answers : xs ≡ verdicts (fresh N Z) parts
   pub means : Means m (after (fresh N Z) (map parse parts))
 
--- "Cut a log that walks to "end" at any byte: the records wholly before the cut are handed out with the same verdicts as in the uncut
--- log, then "end" if the cut is between records or at either end of the log, else 10": xs are the answers over the log, ys and last
--- what a card says over the log's first n bytes
+-- R16: xs are the answers over a log that leads to "end", ys and last what a card says over the log's first n bytes: a verdict for each
+-- record wholly before the cut, the same as in the whole log, then "end" or 10
 pub record CutRun (log : List ℕ) (n : ℕ) (xs ys : List Melded) (last : Cut) : Type 0 where
   pub parts : List (List ℕ)
   pub walks : Walks log 0 parts End

@@ -7,7 +7,7 @@ use Rattle.record.specs.declared.reader.Reading.{Reading}
 use Rattle.record.specs.Answer.{committed}
 use Rattle.record.specs.Reader.{Lists}
 
--- each of some lists has room for the list that goes into it
+-- R11: each of some lists has room for the list that goes into it
 pub record HasRoom (l room : Lists) : Type 0 where
   pub kinds : length (l .kinds) ≤ length (room .kinds)
   pub keys : length (l .keys) ≤ length (room .keys)

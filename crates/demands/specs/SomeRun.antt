@@ -8,11 +8,11 @@ use Rattle.meld.specs.declared.melding.Melded.{Melded}
 use Rattle.meld.specs.Melds.{Melds}
 use Rattle.demands.specs.Runs.{Whole}
 
--- a meld that keeps its promise, for any bytes: what it answers, and the pool then
+-- R23: a meld that keeps its promise, for any bytes: what it answers, and the pool then
 abbrev pub SomeMeld : Type 0
 SomeMeld = (m bytes : List ℕ) → Bytes m → Bytes bytes → (x : Melded) × (m′ : List ℕ) × Melds m bytes m′ x
 
--- a card that has melded the whole log
+-- R15: a card that has melded the whole log
 pub record SomeWhole (N Z : ℕ) (log : List ℕ) : Type 0 where
   pub answers : List Melded
   pub last : Cut

@@ -20,7 +20,7 @@ abbrev pub linesFrom : ℕ → List Melded → List Line
 linesFrom v [] = []
 linesFrom v (x ∷ xs) = record { v = v; answer = x .answer; looks = x .looks } ∷ linesFrom (v + 1) xs
 
--- R44: the answers are the table's lines, then comes "end", and "10, 30 and 40 are kept" in the state that the pool means
+-- R44: the answers are the table's lines, then comes "end", and 10, 30 and 40 are kept in the state that the pool means
 pub record TableRun (xs : List Melded) (last : Cut) (m : List ℕ) : Type 0 where
   pub lines : linesFrom 1 xs ≡ map lineOf rows
   pub ends : last ≡ End

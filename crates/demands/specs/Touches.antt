@@ -12,41 +12,42 @@ use Rattle.record.specs.Answer.{committed, positionsUsedUp, unfitPool, badLimit
 use Rattle.record.specs.Reader.{Lists}
 use Rattle.writer.specs.declared.Written.{Written}
 
--- no more than the elements from .. to − 1 can differ, and there are as many as before
+-- R42: no more than the elements from .. to − 1 can differ, and there are as many as before
 pub record Within (from to : ℕ) (before after : List ℕ) : Type 0 where
   pub size : length after ≡ length before
   pub others : (i : ℕ) → (i < from) ⊎ (to ≤ i) → getD after i 0 ≡ getD before i 0
 
--- `create`: nothing on 9; on 0 the pool, whole
+-- R42: `create`: nothing on 9; on 0 the pool, whole
 pub record CreateTouches (m : List ℕ) (a : Answer) (m′ : List ℕ) : Type 0 where
   pub answers : (a ≡ committed) ⊎ (a ≡ badLimits)
   pub refusal : a ≡ badLimits → m′ ≡ m
   pub commit : length m′ ≡ length m
 
--- the bytes of a pool that hold its position: 12 to 15
+-- R29: the bytes of a pool that hold its position begin here (docs/LAYOUT.md)
 abbrev pub positionFrom : ℕ
 positionFrom = 12
 
+-- R29: and end before here
 abbrev pub positionTo : ℕ
 positionTo = 16
 
--- `meld`: nothing on 7 and 6; on 4, 5, 2, 1 and 3 the position; on 0 the pool
+-- R42: `meld`: nothing on 7 and 6; on 4, 5, 2, 1 and 3 the position; on 0 the pool
 pub record MeldTouches (m : List ℕ) (a : Answer) (m′ : List ℕ) : Type 0 where
   pub refusal : (a ≡ unfitPool) ⊎ (a ≡ positionsUsedUp) → m′ ≡ m
   pub abort : (a ≡ committed → ⊥) → Within positionFrom positionTo m m′
   pub commit : length m′ ≡ length m
 
--- `refresh`: nothing unless 0; then the front of the output, as long as the original
+-- R42: `refresh`: nothing unless 0; then the front of the output, as long as the original
 pub record RefreshTouches (original before : List ℕ) (a : Answer) (after : List ℕ) : Type 0 where
   pub refusal : (a ≡ committed → ⊥) → after ≡ before
   pub commit : Within 0 (length original) before after
 
--- `write`: nothing unless 0; then the front of the output, as long as the record's size
+-- R42: `write`: nothing unless 0; then the front of the output, as long as the record's size
 pub record WriteTouches (before : List ℕ) (w : Written) (after : List ℕ) : Type 0 where
   pub refusal : (w .answer ≡ committed → ⊥) → after ≡ before
   pub commit : Within 0 (w .size) before after
 
--- `read`: nothing unless 0; then the fronts of the lists, as many elements as there are points and scans
+-- R42: `read`: nothing unless 0; then the fronts of the lists, as many elements as there are points and scans
 pub record ReadTouches (before : Lists) (r : Reading) (after : Lists) : Type 0 where
   pub refusal : (r .answer ≡ committed → ⊥) → after ≡ before
   pub kinds : Within 0 (r .points) (before .kinds) (after .kinds)

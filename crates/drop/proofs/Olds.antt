@@ -26,7 +26,7 @@ young-by false z v w h = same (ltb v (w + z)) (not (leb w (v - z)))
     (λ t. not-T (leb w (v - z)) (λ u. omega (arith, ltb→lt v (w + z) t, leb→le w (v - z) u)))
     (λ t. ⊎-elim (λ (u : T (ltb v (w + z))). u) (λ (u : T (not (ltb v (w + z)))). absurd (T-not (leb w (v - z)) t (le→leb w (v - z) (omega (arith, lib.Dec.nltb→le v (w + z) u))))) (test (ltb v (w + z))))
 
--- "tombstones w with w + Z ≤ v" are those of at most v − Z
+-- R27: tombstones w with w + Z ≤ v are those of at most v − Z
 pub young-stays : (z v : ℕ) (e : Entry) → z ≤ v → young z v e ≡ stays (v - z) e
 unfolding young old
 young-stays z v e h = young-by (isLive (e .payload)) z v (e .position) h

@@ -1,4 +1,4 @@
--- Which entries are old: document 01, "all tombstones w with w + Z ≤ v", said with limit = v − Z.
+-- Which entries are old (R27): tombstones w with w + Z ≤ v, said with limit = v − Z.
 -- Assumes nothing: these are definitions.
 use Prim.Native.Nat.{ℕ}
 use mathlib.Core.Bool.{Bool, not, _&&_}

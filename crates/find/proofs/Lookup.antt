@@ -1,4 +1,4 @@
--- What is found agrees with document 01's lookup, and can be looked for in one half of rising entries.
+-- What is found agrees with the rules' lookup (R31), and can be looked for in one half of rising entries.
 -- Assumes nothing.
 use Prim.Native.Nat.{ℕ, _≤_, _<_}
 use native.Mathlib.Omega.{arith}
@@ -22,7 +22,7 @@ seen-of : (o : Option Entry) → seenAs (foundOf o) ≡ seen o
 seen-of none = refl
 seen-of (some e) = seen-at (e .position) (e .payload)
 
--- "absent (never written, or a tombstone), or the payload and write position"
+-- R31: absent, or the payload and the position of the last write
 pub found-lookup : (k : ℕ) (S : State) → seenAs (foundIn k (S .kept)) ≡ lookup k S
 unfolding foundIn lookup
 found-lookup k S = seen-of (find k (S .kept))

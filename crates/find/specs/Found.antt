@@ -22,7 +22,7 @@ foundOf (some e) = foundAt (e .position) (e .payload)
 unfoldable pub foundIn : ℕ → List Entry → Found
 foundIn k es = foundOf (find k es)
 
--- as document 01's lookup sees it: a tombstone is absent
+-- as a lookup sees it (R31): a tombstone is absent
 abbrev pub seenAs : Found → Seen
 seenAs Absent = absent
 seenAs (Live x w) = found x w

@@ -32,7 +32,7 @@ pub node-is : (n : Node) {h low new old l r k s : ℕ} → n .height ≡ h → n
     → n ≡ record { height = h; low = low; newest = new; oldest = old; left = l; right = r; kind = k; spare = s }
 node-is n e0 e1 e2 e3 e4 e5 e6 e7 = λ i. record { height = e0 i; low = e1 i; newest = e2 i; oldest = e3 i; left = e4 i; right = e5 i; kind = e6 i; spare = e7 i }
 
--- what document 01 asks of an entry by itself
+-- what R17 asks of an entry by itself
 abbrev pub Good : Entry → Type 0
 Good e = (1 ≤ e .position) × Fits (e .payload)
 

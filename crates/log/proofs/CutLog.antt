@@ -1,4 +1,4 @@
--- THE CUT LOG of document 01. The walk over the whole log is followed record by record: while the record lies wholly before the
+-- THE CUT LOG (R16). The walk over the whole log is followed record by record: while the record lies wholly before the
 -- cut, its bytes are all there, so the cut log hands it out too; at the first that does not, the cut log is at its end, or what is
 -- left of it is no whole record.
 -- Assumes nothing.

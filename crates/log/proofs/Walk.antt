@@ -75,7 +75,7 @@ walks-sized (ends e) = no-part
 walks-sized (breaks e) = no-part
 walks-sized {log = log} {place = place} (hands {next = next} e w) = one-more (sized-at log place next (record-tells log place next e)) (walks-sized w)
 
--- "The shortest record has 9 bytes, the longest .. 905 in all"
+-- R8: 9 to 905 bytes
 pub sized-range : {part : List ℕ} → PartSized part → (9 ≤ length part) × (length part ≤ 905)
 sized-range s = (omega (arith, s .size, s .least), omega (arith, s .size, s .most))
 

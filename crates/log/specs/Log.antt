@@ -1,4 +1,4 @@
--- Document 01, "The log": what stands at a place of a log, and what is handed out there.
+-- What stands at a place of a log (R14), and what is handed out there (R15).
 -- Assumes nothing: these are definitions.
 use Prim.Native.Nat.{ℕ, _+_, _-_, _≤_}
 use mathlib.Core.Path.{_≡_}
@@ -15,27 +15,28 @@ use Rattle.record.specs.Answer.{brokenLog}
 use Rattle.log.specs.declared.found.Cut.{Cut}
 use Rattle.log.specs.declared.found.Cut.the-variants.{End, Broken, Record}
 
--- the least and the largest length that a record may say: "a length below 7 or above 903" is broken
+-- R14: the least length of a record that can be cut out
 abbrev pub minLength : ℕ
 minLength = 7
 
+-- R14: the largest
 abbrev pub maxLength : ℕ
 maxLength = 903
 
--- the length that the two bytes at a place say
+-- R4: the length that the two bytes at a place say
 abbrev pub lengthAt : List ℕ → ℕ → ℕ
 lengthAt log place = word 2 log place
 
--- the place past the record at a place: its two bytes of length, and as many more as they say
+-- R14: the place past the record at a place: its two bytes of length, and as many more as they say
 abbrev pub pastAt : List ℕ → ℕ → ℕ
 pastAt log place = place + 2 + lengthAt log place
 
--- the place is exactly at the end
+-- R14: the place is exactly at the end
 abbrev pub endsAt : List ℕ → ℕ → Bool
 endsAt log place = eqb place (length log)
 
--- "with fewer than 2 bytes left, a place past the end, a length below 7 or above 903, or a record running past the end";
--- said of a place that is not exactly at the end
+-- R14, the row of 10, said of a place that is not exactly at the end: past it, fewer than two bytes left, a length that cannot be, a record
+-- that runs past the end
 abbrev pub brokenAt : List ℕ → ℕ → Bool
 brokenAt log place =
     ltb (length log) (place + 2) || ltb (length log) place || ltb (lengthAt log place) minLength || ltb maxLength (lengthAt log place)
@@ -48,7 +49,7 @@ pub record RecordAt (log : List ℕ) (place next : ℕ) : Type 0 where
   pub past : next ≡ pastAt log place
   pub inside : next ≤ length log
 
--- "exactly at the end, it says "end""; then broken; "otherwise it hands out that part and its place moves past it"
+-- R14: what stands at a place, the first row that applies
 unfoldable pub cutAt : List ℕ → ℕ → Cut
 cutAt log place =
     if endsAt log place then End else
@@ -60,29 +61,29 @@ pub record CutTold : Type 0 where
   pub answer : Option Answer
   pub past : Option ℕ
 
--- of each case: "end" has no number and hands nothing out; a broken log is 10; a record has no number, and its place past it is told
+-- R3, of each case: "end" has no number and hands nothing out; a broken log is 10; a record has no number, and its place past it is told
 abbrev pub cutTold : Cut → CutTold
 cutTold End = record { answer = none; past = none }
 cutTold Broken = record { answer = some brokenLog; past = none }
 cutTold (Record next) = record { answer = none; past = some next }
 
--- what `cut` promises of its answer: what is told by it is what is told of the case that stands at the place
+-- R14: what `cut` promises of its answer
 pub record CutIs (log : List ℕ) (place : ℕ) (r : Cut) : Type 0 where
   pub told : cutTold r ≡ cutTold (cutAt log place)
 
--- the part handed out: "with "end" or 10 .. empty", otherwise the bytes from the place to the place past the record
+-- R15: the part handed out: a record's bytes, and none at the end or in a broken log
 abbrev pub partOf : Cut → List ℕ → ℕ → List ℕ
 partOf End log place = []
 partOf Broken log place = []
 partOf (Record next) log place = take (next - place) (drop place log)
 
--- where the part handed out starts, counted from the log's first byte: a record starts at its place, the empty part at 0
+-- R15: where the part handed out starts, counted from the log's first byte: a record at its place, the empty part at 0
 abbrev pub startOf : Cut → ℕ → ℕ
 startOf End place = 0
 startOf Broken place = 0
 startOf (Record next) place = place
 
--- the slice r is the part handed out at a place of the lent log: its bytes, and where it lies, in the log's own memory
+-- R15: the slice r is the part handed out at a place of the lent log: its bytes, and where it lies, in the log's own memory
 pub record HandedOut (log : RefT (List ℕ)) (place : ℕ) (r : RefT (List ℕ)) : Type 0 where
   pub bytes : now r ≡ partOf (cutAt (now log) place) (now log) place
   pub block : ptr r .0 ≡ ptr log .0
@@ -95,6 +96,6 @@ pub record SameSlice (r q : RefT (List ℕ)) : Type 0 where
   pub block : ptr r .0 ≡ ptr q .0
   pub start : ptr r .1 ≡ ptr q .1
 
--- the place afterwards: past the record that is handed out, else (""end" or 10 .. unchanged") the same place
+-- R15: the place afterwards: past a record, and else the same
 abbrev pub placeAfter : Cut → ℕ → ℕ
 placeAfter c place = valueOr place (cutTold c .past)

@@ -1,4 +1,4 @@
--- Document 01, "The log": the walk over a whole log, and what becomes of it when the log is cut.
+-- The steps over a whole log (R15), and what becomes of them when the log is cut off (R16).
 -- Assumes nothing: these are definitions.
 use Prim.Native.Nat.{ℕ, _+_, _≤_, _<_}
 use mathlib.Core.Path.{_≡_}
@@ -8,7 +8,7 @@ use Rattle.log.specs.declared.found.Cut.{Cut}
 use Rattle.log.specs.declared.found.Cut.the-variants.{End, Broken, Record}
 use Rattle.log.specs.Log.{cutAt, partOf}
 
--- the walk over a log from a place on: the parts handed out, in order, and how it ends, with "end" or broken
+-- R15: steps from a place on: the parts handed out, in order, and how it ends, at the end or broken
 pub data Walks (log : List ℕ) : ℕ → List (List ℕ) → Cut → Type 0 where
   ends : {place : ℕ} → cutAt log place ≡ End → Walks log place [] End
   breaks : {place : ℕ} → cutAt log place ≡ Broken → Walks log place [] Broken
@@ -27,18 +27,18 @@ pub record WalkPast (log : List ℕ) (place next : ℕ) (parts : List (List ℕ)
   pub all : parts ≡ partOf (Record next) log place ∷ rest
   pub walks : Walks log next rest last
 
--- two logs have the same bytes from a place to another
+-- R14: two logs have the same bytes from a place to another
 pub record Agree (log other : List ℕ) (place next : ℕ) : Type 0 where
   pub byte : (i : ℕ) → place ≤ i → i < next → getD other i 0 ≡ getD log i 0
 
--- the parts back to back
+-- R13: the parts back to back
 abbrev pub joined : List (List ℕ) → List ℕ
 joined [] = []
 joined (part ∷ parts) = part ++ joined parts
 
--- "Cut a log that walks to "end" at any byte": the log's first n bytes, where the whole log hands out `parts`
+-- R16: the log's first n bytes, where the whole log hands out `parts`
 pub record CutLog (log : List ℕ) (parts : List (List ℕ)) (n : ℕ) : Type 0 where
-  -- "the records wholly before the cut", and the others
+  -- the records wholly before the cut, and the others
   pub before : List (List ℕ)
   pub after : List (List ℕ)
   pub all : parts ≡ before ++ after
@@ -47,6 +47,6 @@ pub record CutLog (log : List ℕ) (parts : List (List ℕ)) (n : ℕ) : Type 0 
   -- those before the cut are handed out as in the uncut log
   pub last : Cut
   pub walks : Walks (take n log) 0 before last
-  -- "then "end" if the cut is between records or at either end of the log, else 10"
+  -- then "end" if the cut is between two records or at either end of the log, and else 10
   pub between : length (joined before) ≡ n → last ≡ End
   pub amid : (length (joined before) ≡ n → ⊥) → last ≡ Broken

@@ -1,4 +1,4 @@
--- Document 01, "The log": "a log reader holds the lent log and its own place in it". What its functions promise, in the words of
+-- The log reader (R15): it holds the lent log and its own place in it. What its functions promise, in the words of
 -- the log (Log.antt of `log`): what stands at a place, the part handed out there, and the place afterwards.
 -- Assumes nothing: these are definitions.
 use Prim.Native.Nat.{ℕ}

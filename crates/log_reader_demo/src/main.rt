@@ -1,5 +1,5 @@
 // The two forms over structs, run: the log reader over a small log, and the writer's entry for pairs.
-// The log is document 01's two whole records back to back, and one byte that is no record. First a line with the place of a new reader
+// The log is the records of rows 4 and 3 of R44 back to back, and one byte that is no record. First a line with the place of a new reader
 // after one step. Then for each step from a place a line: what was found there, in words (`record`, `end` or `broken`), the place
 // afterwards, and how many bytes were handed out. Then the second of the two records is written, with its scan as a pair, and printed: answer, size,
 // and the bytes.

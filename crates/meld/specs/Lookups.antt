@@ -1,4 +1,4 @@
--- Document 01: "Lookup answers 7, absent (never written, or a tombstone), or the payload and write position".
+-- What a lookup promises (R31).
 -- Assumes nothing: these are definitions.
 use Prim.Native.Nat.{ℕ}
 use mathlib.Core.Path.{_≡_}
@@ -17,19 +17,18 @@ pub record LookupTold : Type 0 where
   pub payload : Option ℕ
   pub position : Option ℕ
 
--- in each case: an unfit pool is 7; an absent key has no number; one that is found has none either, and its payload and position are told
+-- R3, in each case: an unfit pool is 7; an absent key has no number; one that is found has none either, and its payload and position are told
 abbrev pub lookupTold : Lookup → LookupTold
 lookupTold Unfit = record { answer = some unfitPool; payload = none; position = none }
 lookupTold Absent = record { answer = none; payload = none; position = none }
 lookupTold (Found x w) = record { answer = none; payload = some x; position = some w }
 
--- what the rules see, as the answer
+-- R31: what the rules see, as the answer
 abbrev pub lookupOf : Seen → Lookup
 lookupOf absent = Absent
 lookupOf (found x w) = Found x w
 
--- what `lookup` promises: for the state that the pool means, what is told of what the rules' lookup sees; where it means none, what is
--- told of an unfit pool
+-- R31: at the state that the pool means, what the rules see there; 7 where it means none
 pub record LooksUp (m : List ℕ) (k : ℕ) (r : Lookup) : Type 0 where
   pub fit : (A : Arrangement) → Image m A → lookupTold r ≡ lookupTold (lookupOf (lookup k (stateOf A)))
   pub unfit : (Fit m → ⊥) → lookupTold r ≡ lookupTold Unfit

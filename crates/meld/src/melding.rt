@@ -17,7 +17,7 @@ pub struct Melded {
 }
 
 // Melds a record into a fit pool: 6, 4, 5, 2, 1, 3 or 0.
-pub fn meld_fit(pool: &mut [u8], bytes: &[u8]) -> Melded
+fn meld_fit(pool: &mut [u8], bytes: &[u8]) -> Melded
     requires { ⌜ Fit (now pool) ⌝ }
     ensures { λ r. ⌜ MeldsFit (now (pool .entry)) (now (bytes .entry)) (now (pool .exit)) r ⌝ }
 {

@@ -6,16 +6,16 @@ use Rattle.words.specs.Word.{word, putWord}
 use Rattle.nodes.specs.declared.node.Node.{Node}
 use Rattle.nodes.specs.declared.header.Header.{Header}
 
--- where node i starts
+-- R19: where node i starts
 abbrev pub base : ℕ → ℕ
 base i = 64 + 32 * i
 
--- words stored one behind the other from a place on
+-- R1: words stored one behind the other from a place on
 unfoldable pub putWords : List ℕ → ℕ → List ℕ → List ℕ
 putWords m at [] = m
 putWords m at (w ∷ ws) = putWords (putWord 4 m at w) (at + 4) ws
 
--- the node whose words stand from a place on
+-- R19: the node whose words stand from a place on
 unfoldable pub nodeFrom : List ℕ → ℕ → Node
 nodeFrom m b =
     record {
@@ -29,23 +29,23 @@ nodeFrom m b =
       spare = word 4 m (b + 28);
     }
 
--- the words of a node, in their order
+-- R19: the words of a node, in their order
 abbrev pub nodeWords : Node → List ℕ
 nodeWords n = n .height ∷ n .low ∷ n .newest ∷ n .oldest ∷ n .left ∷ n .right ∷ n .kind ∷ n .spare ∷ []
 
--- node i of the pool
+-- R19: node i of the pool
 abbrev pub nodeAt : List ℕ → ℕ → Node
 nodeAt m i = nodeFrom m (base i)
 
--- the pool with n as node i
+-- R19: the pool with n as node i
 unfoldable pub putNode : List ℕ → ℕ → Node → List ℕ
 putNode m i n = putWords m (base i) (nodeWords n)
 
--- an inner node's words
+-- R19: an inner node's words
 abbrev pub innerNode : ℕ → ℕ → ℕ → ℕ → ℕ → ℕ → Node
 innerNode h low new old l r = record { height = h; low = low; newest = new; oldest = old; left = l; right = r; kind = 0; spare = 0 }
 
--- the header's seven words
+-- R19: the header's seven words
 unfoldable pub headerAt : List ℕ → Header
 headerAt m =
     record {
@@ -58,9 +58,10 @@ headerAt m =
       free = word 4 m 24;
     }
 
+-- R19: the words of a header, in their order
 abbrev pub headerWords : Header → List ℕ
 headerWords h = h .mark ∷ h .limit ∷ h .zone ∷ h .position ∷ h .kept ∷ h .root ∷ h .free ∷ []
 
--- the pool with h as its header
+-- R19: the pool with h as its header
 unfoldable pub putHeader : List ℕ → Header → List ℕ
 putHeader m h = putWords m 0 (headerWords h)

@@ -9,7 +9,8 @@ use Rattle.words.specs.Choice.{if_then_else_}
 use Rattle.record.specs.declared.point.Scan.{Scan}
 use Rattle.record.specs.Answer.{malformed}
 use Rattle.record.specs.Reader.{lists, lowOf, highOf}
-use Rattle.writer.specs.Writer.{WriteOutcome, recordOf, writeOutcome, writeRefused, writeOf}
+use Rattle.writer.specs.Writer.{WriteOutcome, recordOf, writeOutcome, writeRefused, writeOf, WritesAs}
+use Rattle.writer.specs.declared.Written.{Written}
 use Rattle.pairs.specs.declared.halves.Halves.{Halves}
 
 abbrev pub noScan : Scan
@@ -40,3 +41,11 @@ abbrev pub writeHalves : ℕ → List ℕ → List ℕ → List ℕ → ℕ → 
 writeHalves snapshot kinds keys payloads count s output =
     if ltb 8 count then writeOutcome (writeRefused malformed) output else
     writeOf (recordOf snapshot (lists kinds keys payloads (take count (s .lows)) (take count (s .highs)))) output
+
+-- R10: what `write_pairs` promises: the writer's promise, of the lows and the highs of the pairs
+abbrev pub PairsWritten : ℕ → List ℕ → List ℕ → List ℕ → List Scan → List ℕ → Written → List ℕ → Type 0
+PairsWritten snapshot ks es xs cs before w after = WritesAs snapshot (lists ks es xs (map lowOf cs) (map highOf cs)) before w after
+
+-- R10: what `write_one` promises, of one scan
+abbrev pub OneWritten : ℕ → List ℕ → List ℕ → List ℕ → Scan → List ℕ → Written → List ℕ → Type 0
+OneWritten snapshot ks es xs c before w after = WritesAs snapshot (lists ks es xs (c .low ∷ []) (c .high ∷ [])) before w after

@@ -13,11 +13,9 @@ use record::limits::MAX_SCANS;
 use writer::Written;
 use writer::write;
 ghost use mathlib.Core.Path.{_≡_};
-ghost use mathlib.Core.List.{[], _∷_, map};
 ghost use lib.ListN.{length};
-ghost use Rattle.record.specs.Reader.{lists, lowOf, highOf};
-ghost use Rattle.writer.specs.Writer.{recordOf, writeOutcome, writeOf};
-ghost use Rattle.pairs.specs.Pairs.{writeHalves};
+ghost use Rattle.writer.specs.Writer.{writeOutcome};
+ghost use Rattle.pairs.specs.Pairs.{writeHalves, PairsWritten, OneWritten};
 
 // Writes with the first `count` of the lows and highs; more than 8 scans are refused with 4, as the core does.
 fn write_halves(
@@ -62,10 +60,7 @@ pub fn write_pairs(
     scans: &[Scan],
     output: &mut [u8],
 ) -> Written
-    ensures { λ r. ⌜ writeOutcome r (now (output .exit))
-        ≡ writeOf (recordOf snapshot
-        (lists (now (kinds .entry)) (now (keys .entry)) (now (payloads .entry)) (map lowOf (now (scans .entry))) (map highOf (now (scans .entry)))))
-        (now (output .entry)) ⌝ }
+    ensures { λ r. ⌜ PairsWritten snapshot (now (kinds .entry)) (now (keys .entry)) (now (payloads .entry)) (now (scans .entry)) (now (output .entry)) r (now (output .exit)) ⌝ }
 {
     let count = scans.len();
     let halves = halves_of(scans, least(count));
@@ -81,10 +76,7 @@ pub fn write_one(
     scan: Scan,
     output: &mut [u8],
 ) -> Written
-    ensures { λ r. ⌜ writeOutcome r (now (output .exit))
-        ≡ writeOf (recordOf snapshot
-        (lists (now (kinds .entry)) (now (keys .entry)) (now (payloads .entry)) (scan .low ∷ []) (scan .high ∷ [])))
-        (now (output .entry)) ⌝ }
+    ensures { λ r. ⌜ OneWritten snapshot (now (kinds .entry)) (now (keys .entry)) (now (payloads .entry)) scan (now (output .entry)) r (now (output .exit)) ⌝ }
 {
     let scans = [scan];
     write_pairs(snapshot, kinds, keys, payloads, &scans, output)

@@ -143,7 +143,7 @@ module _ (A : Arrangement) (q : Arranged A) (e : Entry) (s : Storable A e) where
   times-all : (j : ℕ) → times j AllAfter ≡ times j All
   times-all j = times-after e j (A .free) (A .tree) enough
 
-  -- the state is one of document 01's
+  -- the state is lawful (R17)
   lawful-put : Lawful (stateOf (putIn A e))
   lawful-put = rw state-put (record {
     limit-N = q .lawful .limit-N;

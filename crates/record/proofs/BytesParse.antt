@@ -108,7 +108,7 @@ module _ (r : Rec) (v : Valid r) where
   tail9 : List ℕ
   tail9 = pointsBytes (r .points) ++ scansBytes (r .scans)
 
-  -- "the longest 7 + 64·13 + 8·8 = 903 after the length"
+  -- R8: the longest
   pub body-most : length (bodyBytes r) ≤ 903
   body-most = omega (arith, body-size r, points-size-most (r .points), scans-bytes-size (r .scans), v .few-points, v .few-scans)
 

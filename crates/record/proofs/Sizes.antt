@@ -12,7 +12,7 @@ use Rattle.record.specs.declared.point.Point.the-variants.{Read, Put, De
 use Rattle.record.specs.declared.point.Scan.{Scan}
 use Rattle.record.specs.Record.{Rec, pointBytes, pointsBytes, scanBytes, scansBytes, bodyBytes, bytesOf}
 
--- "5 or 13 each"
+-- R8: 5 or 13 bytes each
 abbrev pub sizeOf : Point → ℕ
 sizeOf (Read k) = 5
 sizeOf (Put k x) = 13

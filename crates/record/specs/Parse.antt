@@ -4,6 +4,7 @@
 use Prim.Native.Nat.{ℕ, zero, suc, _+_}
 use mathlib.Core.Bool.{Bool, true, false, _&&_}
 use mathlib.Core.Option.{Option, none, some}
+use mathlib.Core.Path.{_≡_}
 use mathlib.Core.List.{List, [], _∷_}
 use lib.ListN.{length, getD}
 use lib.Dec.{leb, ltb, eqb}
@@ -121,3 +122,7 @@ parse bs =
 abbrev pub checkOf : Option Rec → Answer
 checkOf none = malformed
 checkOf (some r) = committed
+
+-- R11: what `check` promises of its answer
+abbrev pub Checked : List ℕ → Answer → Type 0
+Checked bytes a = a ≡ checkOf (parse bytes)

@@ -1,6 +1,5 @@
 // What a record names: points, each a read, a put or a delete of one key, and scans of a range of keys.
-ghost use mathlib.Core.Path.{_≡_};
-ghost use Rattle.record.specs.Record.{kindOf, keyOf, payloadOf};
+ghost use Rattle.record.specs.Record.{KindIs, KeyIs, PayloadIs};
 
 pub enum Point {
     // A read says nothing of whether the key was there.
@@ -19,7 +18,7 @@ pub struct Scan {
 impl Point {
     // The kind's number in a record's bytes.
     pub fn kind(self) -> u8
-        ensures { λ r. ⌜ r ≡ kindOf self ⌝ }
+        ensures { λ r. ⌜ KindIs self r ⌝ }
     {
         match self {
             Point::Read(_) => 1,
@@ -29,7 +28,7 @@ impl Point {
     }
 
     pub fn key(self) -> u32
-        ensures { λ r. ⌜ r ≡ keyOf self ⌝ }
+        ensures { λ r. ⌜ KeyIs self r ⌝ }
     {
         match self {
             Point::Read(key) => key,
@@ -40,7 +39,7 @@ impl Point {
 
     // The payload of a put; 0 for a read or a delete.
     pub fn payload(self) -> u64
-        ensures { λ r. ⌜ r ≡ payloadOf self ⌝ }
+        ensures { λ r. ⌜ PayloadIs self r ⌝ }
     {
         match self {
             Point::Read(_) => 0,

@@ -13,8 +13,8 @@ ghost use Prim.Native.Nat.{_≤_};
 ghost use lib.ListN.{length};
 ghost use lib.Seq.{sets};
 ghost use Rattle.record.specs.Record.{kindOf, keyOf, payloadOf};
-ghost use Rattle.record.specs.Parse.{parsePoints, parseScans, isTook, listOf, placeOf, parse};
-ghost use Rattle.record.specs.Reader.{lists, readOutcome, readOf, readRefused, lowOf, highOf};
+ghost use Rattle.record.specs.Parse.{parsePoints, parseScans, isTook, listOf, placeOf};
+ghost use Rattle.record.specs.Reader.{lists, readRefused, ReadsAs, lowOf, highOf};
 
 // What the reader gives back beside the lists: the answer, and on 0 the snapshot and how many points and scans there are.
 pub struct Reading {
@@ -103,9 +103,9 @@ pub fn read(
     lows: &mut [u32],
     highs: &mut [u32],
 ) -> Reading
-    ensures { λ r. ⌜ readOutcome r (lists (now (kinds .exit)) (now (keys .exit)) (now (payloads .exit)) (now (lows .exit)) (now (highs .exit)))
-        ≡ readOf (parse (now (bytes .entry)))
-        (lists (now (kinds .entry)) (now (keys .entry)) (now (payloads .entry)) (now (lows .entry)) (now (highs .entry))) ⌝ }
+    ensures { λ r. ⌜ ReadsAs (now (bytes .entry))
+        (lists (now (kinds .entry)) (now (keys .entry)) (now (payloads .entry)) (now (lows .entry)) (now (highs .entry))) r
+        (lists (now (kinds .exit)) (now (keys .exit)) (now (payloads .exit)) (now (lows .exit)) (now (highs .exit))) ⌝ }
 {
     if check(bytes).number != Answer::COMMITTED.number {
         return refusal(Answer::MALFORMED);

@@ -5,11 +5,11 @@ use Prim.Native.Nat.{ℕ}
 use mathlib.Core.Path.{_≡_, sym, ap, _∙_}
 use mathlib.Core.List.{List}
 use Rattle.record.specs.declared.answer.Answer.{Answer}
-use Rattle.record.specs.Reader.{Lists, ReadOutcome, readOutcome}
-use Rattle.writer.specs.Writer.{WriteOutcome, writeOutcome}
+use Rattle.record.specs.Reader.{Lists, ReadOutcome, readOutcome, ReadsAs}
+use Rattle.writer.specs.Writer.{WriteOutcome, writeOutcome, WritesAs}
 use Rattle.record_abi.specs.declared.numbers.CutNumbers.{CutNumbers}
 use Rattle.record_abi.specs.Numbers.{reading, written, found}
-use Rattle.record_abi.specs.Told.{ChecksAs, ReadsAs, WritesAs, CutsAs}
+use Rattle.record_abi.specs.Told.{ChecksAs, CutsAs}
 
 -- `emuparasol_check`: one number
 pub only-check : (bytes : List ℕ) (r q : ℕ) → ChecksAs bytes r → ChecksAs bytes q → r ≡ q

@@ -7,9 +7,10 @@ use numbers::of_cut;
 use record::check;
 use record::read;
 use writer::write;
-ghost use Rattle.record.specs.Reader.{lists};
+ghost use Rattle.record.specs.Reader.{lists, ReadsAs};
+ghost use Rattle.writer.specs.Writer.{WritesAs};
 ghost use Rattle.record_abi.specs.Numbers.{reading, written, found};
-ghost use Rattle.record_abi.specs.Told.{ChecksAs, ReadsAs, WritesAs, CutsAs};
+ghost use Rattle.record_abi.specs.Told.{ChecksAs, CutsAs};
 
 // 0 where the bytes lent are exactly one well-formed record, else 4.
 #[no_mangle]

@@ -43,7 +43,7 @@ same-body p r = body-size (withSnapshot p r) ∙ sym (body-size r)
 pub same-size : (p : ℕ) (r : Rec) → length (bytesOf (withSnapshot p r)) ≡ length (bytesOf r)
 same-size p r = omega (arith, whole-size (withSnapshot p r), whole-size r, same-body p r)
 
--- "the same record with snapshot p", whatever follows it
+-- R38: the record with snapshot p, whatever follows it
 pub snapshot-stored : (p : ℕ) (r : Rec) (t : List ℕ) → putWord 4 (bytesOf r ++ t) 3 p ≡ bytesOf (withSnapshot p r) ++ t
 snapshot-stored p r t =
     let n : ℕ = length (bodyBytes r) in
@@ -59,6 +59,6 @@ pub snapshot-put : (p : ℕ) (r : Rec) → bytesOf (withSnapshot p r) ≡ putWor
 snapshot-put p r =
     sym (append-nil (bytesOf (withSnapshot p r))) ∙ sym (snapshot-stored p r []) ∙ ap (λ (l : List ℕ). putWord 4 l 3 p) (append-nil (bytesOf r))
 
--- "its other bytes as before"
+-- R38: every other byte as before
 pub others-as-before : (p : ℕ) (r : Rec) (i : ℕ) → (i < 3) ⊎ (7 ≤ i) → getD (bytesOf (withSnapshot p r)) i 0 ≡ getD (bytesOf r) i 0
 others-as-before p r i w = ap (λ (l : List ℕ). getD l i 0) (snapshot-put p r) ∙ byte-put 4 (bytesOf r) 3 p i w

@@ -41,7 +41,7 @@ module _ (m original before : List ℕ) where
     by-fitness m (bytes-decided x y) (λ f. ap (λ (o : RefreshOutcome). o .output) (meets a b x y r s f)) (λ n. ap (λ (o : RefreshOutcome). o .output) (misses a b x y r s n)),
   )
 
-  -- "on any other answer the output is untouched"
+  -- R38: on a refusal the output is as it was
   pub untouched : (a : Answer) (after : List ℕ) → RefreshIs m original before a after → (a .number ≡ 0 → ⊥) → after ≡ before
   untouched a after r n =
       by-fitness m (bytes-decided after before)

@@ -127,7 +127,7 @@ module _ (S : State) (last : S .p ≤ lastPosition) (original before : List ℕ)
       rest = rw (there .1) (drop-at (bytesOf (withSnapshot (S .p) (g .r))) _ (length original) size ∙ ap (λ (n : ℕ). drop n before) size);
     }
 
-  -- "On 0 the front of the output is the same record with snapshot p, its other bytes as before"
+  -- R38: on 0 the front of the output is the record with snapshot p
   pub after-zero : a .number ≡ 0 → FrontIs (S .p) original before after
   after-zero z = front-is z (went z)
 

@@ -17,27 +17,27 @@ use Rattle.rules.specs.Verdict.{verdictAnswer}
 use Rattle.rules.specs.Refresh.{Refreshed, done, refused, refresh}
 use Rattle.pool.specs.Image.{Arrangement, Image, Fit, stateOf}
 
--- the answer, and the output afterwards
+-- R38: the answer, and the output afterwards
 pub record RefreshOutcome : Type 0 where
   pub answer : Answer
   pub output : List ℕ
 
--- the two together
+-- R38: the two together
 abbrev pub refreshOutcome : Answer → List ℕ → RefreshOutcome
 refreshOutcome a output = record { answer = a; output = output }
 
--- a refusal leaves the output untouched; then 8 if the output is shorter than the record; on 0 the record is the output's front
+-- R38: a refusal leaves the output as it was; so does 8, for an output shorter than the record; on 0 the record is its front
 unfoldable pub leftBy : Refreshed → List ℕ → RefreshOutcome
 leftBy (refused v) output = refreshOutcome (verdictAnswer v) output
 leftBy (done r) output =
     if ltb (length output) (length (bytesOf r)) then refreshOutcome outputShort output else
     refreshOutcome committed (front (bytesOf r) output)
 
--- at a state, for the record that the bytes are, none if they are not well formed, and an output
+-- R38: at a state, for the record that the bytes are, none if they are malformed, and an output
 abbrev pub refreshedOf : State → Option Rec → List ℕ → RefreshOutcome
 refreshedOf S m output = leftBy (refresh S m) output
 
--- what `refresh` promises of a pool m, an original and an output as it was: the answer a, and the output afterwards
+-- R38: what `refresh` promises of a pool m, an original and an output as it was: the answer a, and the output afterwards
 pub record RefreshIs (m original before : List ℕ) (a : Answer) (after : List ℕ) : Type 0 where
   pub fit : (A : Arrangement) → Image m A → refreshOutcome a after ≡ refreshedOf (stateOf A) (parse original) before
   pub unfit : (Fit m → ⊥) → refreshOutcome a after ≡ refreshOutcome unfitPool before

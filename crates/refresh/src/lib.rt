@@ -14,7 +14,7 @@ ghost use Rattle.pool.specs.Image.{Arrangement, Image, Fit, stateOf};
 ghost use Rattle.refresh.specs.Refreshed.{refreshOutcome, refreshedOf, RefreshIs};
 
 // Refreshes in a pool that is known to be fit.
-pub fn refresh_fit(pool: &[u8], original: &[u8], output: &mut [u8]) -> Answer
+fn refresh_fit(pool: &[u8], original: &[u8], output: &mut [u8]) -> Answer
     requires { ⌜ Fit (now pool) ⌝ }
     ensures { λ r. ⌜ ((A : Arrangement) → Image (now (pool .entry)) A → refreshOutcome r (now (output .exit)) ≡ refreshedOf (stateOf A) (parse (now (original .entry))) (now (output .entry))) ⌝ }
 {

@@ -101,12 +101,12 @@ looksFor-bound w n malformed h = omega arith
 looksFor-bound w n ahead h = omega arith
 looksFor-bound w n positionsUsedUp h = omega arith
 
--- "never exceed 65 + 64·(points + 2·scans)", for any well-formed record and any state
+-- R37, for any well-formed record and any state
 pub looks-limit : {S : State} {r : Rec} → Lawful S → Valid r → looksOf S (some r) ≤ 65 + 64 * (length (r .points) + 2 * length (r .scans))
 unfolding looksOf
 looks-limit {S} {r} l v = looksFor-bound (walkOf S (some r) .looks) (65 + 64 * (length (r .points) + 2 * length (r .scans))) (verdict S (some r))
     (rw (← (marks-length r)) (looks-bound (r .snapshot) (reach r) (marksOf r) (marks-marked r (apart-ordered 0 (r .scans) (v .apart))) (treeOf-canonical 32 0 (l .rising))))
 
--- "5,185 for the fullest record"
+-- R37 of the fullest record: 5,185
 pub looks-fullest : {S : State} {r : Rec} → Lawful S → Valid r → looksOf S (some r) ≤ 5185
 looks-fullest l v = omega (arith, looks-limit l v, v .few-points, v .few-scans)

@@ -108,11 +108,11 @@ shows-after S (m ∷ ms) b f =
 pub shows-log : (N Z : ℕ) (log : Log) → WellFormed log → Shows (after (fresh N Z) log .kept) (commits (fresh N Z) log)
 shows-log N Z log w = shows-after (fresh N Z) {C = []} log w (record { sorted = end {low = 0} (omega arith); sees = λ k. refl; last = λ e m. elim m [ ] })
 
--- "a lookup sees the last committed write"
+-- R30: a lookup sees the last committed write
 pub last-write : (N Z : ℕ) (log : Log) → WellFormed log → (k : ℕ) → lookup k (after (fresh N Z) log) ≡ seen (lastWrite k none (commits (fresh N Z) log))
 unfolding lookup
 last-write N Z log w k = shows-log N Z log w .sees k
 
--- "for each of at most N kept keys the position of its last committed write .. and its payload or a tombstone"
+-- R17: what is kept of a key is its last committed write
 pub kept-last : (N Z : ℕ) (log : Log) → WellFormed log → (e : Entry) → Mem e (after (fresh N Z) log .kept) → lastWrite (e .key) none (commits (fresh N Z) log) ≡ some e
 kept-last N Z log w = shows-log N Z log w .last

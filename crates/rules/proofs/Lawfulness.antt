@@ -22,7 +22,7 @@ use Rattle.rules.specs.EntryFits.{EntryFits}
 use Rattle.rules.proofs.Written.{record-sized}
 use Rattle.rules.proofs.Counted.{count-stored, drops-whole}
 
--- "A new pool has p = 0 and no keys"
+-- R17: before the first record
 pub lawful-fresh : {N Z : ℕ} → (1 ≤ N) × (N ≤ 65536) → (1 ≤ Z) × (Z ≤ 4096) → Lawful (fresh N Z)
 lawful-fresh {N} {Z} a b = record {
   limit-N = a;

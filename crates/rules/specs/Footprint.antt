@@ -12,7 +12,7 @@ use Rattle.record.specs.declared.point.Scan.{Scan}
 use Rattle.rules.specs.Lists.{any}
 use Rattle.rules.specs.State.{Entry}
 
--- a point names its key: it is the scan from the key to the key
+-- R21: a point names its key: it is the scan from the key to the key
 abbrev pub named : Point → Scan
 named q = record { low = keyOf q; high = keyOf q }
 
@@ -20,11 +20,11 @@ named q = record { low = keyOf q; high = keyOf q }
 unfoldable pub reach : Rec → List Scan
 reach r = map named (r .points) ++ r .scans
 
--- something of a scan lies in from .. to − 1
+-- R21: something of a scan lies in from .. to − 1
 abbrev pub lies : ℕ → ℕ → Scan → Bool
 lies from to c = ltb (c .low) to && leb from (c .high)
 
--- something of what a record names or scans lies in from .. to − 1
+-- R21: something of what a record names or scans lies in from .. to − 1
 unfoldable pub meets : List Scan → ℕ → ℕ → Bool
 meets f from to = any (lies from to) f
 

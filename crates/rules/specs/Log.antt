@@ -16,28 +16,28 @@ use Rattle.rules.specs.State.{Entry, State, fresh}
 use Rattle.rules.specs.Footprint.{writesOf}
 use Rattle.rules.specs.Verdict.{Verdict, committed, conflict, tooOld, noRoom, malformed, ahead, positionsUsedUp, hits, verdict, pointsOf, next}
 
--- each record as it parses, none where it is malformed
+-- R13: each record as it parses, none where it is malformed
 abbrev pub Log : Type 0
 Log = List (Option Rec)
 
--- a record that parses keeps the rules of a record
+-- R9: a record that parses keeps the rules of a record
 abbrev pub ValidIf : Option Rec → Type 0
 ValidIf m = (r : Rec) → m ≡ some r → Valid r
 
--- so in a whole log
+-- R9: what parses keeps the rules of a record
 abbrev pub WellFormed : Log → Type 0
 WellFormed log = (r : Rec) → Mem (some r) log → Valid r
 
--- the state after a log
+-- R30: the state after a log
 unfoldable pub after : State → Log → State
 after S [] = S
 after S (m ∷ ms) = after (next S m) ms
 
--- the state after the first q records of a log from a fresh pool
+-- R30: the state after the first q records of a log from a new pool
 abbrev pub stateAt : ℕ → ℕ → Log → ℕ → State
 stateAt N Z log q = after (fresh N Z) (take q log)
 
--- only a committed record is a writer
+-- R25: only a committed record writes
 abbrev pub isWriter : Verdict → Bool
 isWriter committed = true
 isWriter conflict = false
@@ -47,16 +47,16 @@ isWriter malformed = false
 isWriter ahead = false
 isWriter positionsUsedUp = false
 
--- what the record at v wrote, by its verdict
+-- R25: what the record at v wrote, by its answer
 abbrev pub wrote : ℕ → List Point → Verdict → List Entry
 wrote v ps a = if isWriter a then writesOf v ps else []
 
--- the puts and deletes of the committed records, in log order
+-- R30: the writes of the committed records, in log order
 unfoldable pub commits : State → Log → List Entry
 commits S [] = []
 commits S (m ∷ ms) = wrote (S .p + 1) (pointsOf m) (verdict S m) ++ commits (next S m) ms
 
--- a write of a key named or scanned, at s + 1 to p
+-- R25: a write of a key named or scanned, at one of s + 1 to p
 abbrev pub between : ℕ → ℕ → List Scan → Entry → Bool
 between s p f e = hits s f e && leb (e .position) p
 

@@ -13,21 +13,21 @@ use Rattle.rules.specs.State.{State}
 use Rattle.rules.specs.Footprint.{reach}
 use Rattle.rules.specs.Verdict.{Verdict, committed, conflict, tooOld, noRoom, malformed, ahead, positionsUsedUp, verdictAnswer, conflicts, refusalOr}
 
--- the same record with another snapshot
+-- R38: the same record with another snapshot
 abbrev pub withSnapshot : ℕ → Rec → Rec
 withSnapshot s r = record { snapshot = s; points = r .points; scans = r .scans }
 
--- a record on 0, the answer otherwise
+-- R38: a record on 0, the answer otherwise
 pub data Refreshed : Type 0 where
   done : Rec → Refreshed
   refused : Verdict → Refreshed
 
--- its number, by its one name
+-- R3: its number
 abbrev pub refreshedAnswer : Refreshed → Answer
 refreshedAnswer (done r) = Names.committed
 refreshedAnswer (refused a) = verdictAnswer a
 
--- this record on 0, the answer otherwise
+-- R38: this record on 0, the answer otherwise
 abbrev pub onZero : Rec → Verdict → Refreshed
 onZero r committed = done r
 onZero r conflict = refused conflict
@@ -42,7 +42,7 @@ unfoldable pub refresh : State → Option Rec → Refreshed
 refresh S none = refused malformed
 refresh S (some r) = onZero (withSnapshot (S .p) r) (refusalOr S (r .snapshot) (reach r) committed)
 
--- r is neither ahead nor too old, nothing conflicts, and r′ is the same record with snapshot p
+-- R38: r is neither ahead nor too old, nothing conflicts, and r′ is the same record with snapshot p
 pub record Refreshes (S : State) (r r′ : Rec) : Type 0 where
   pub not-ahead : r .snapshot ≤ S .p
   pub not-too-old : S .p - r .snapshot ≤ S .Z
@@ -51,12 +51,12 @@ pub record Refreshes (S : State) (r r′ : Rec) : Type 0 where
   pub same-points : r′ .points ≡ r .points
   pub same-scans : r′ .scans ≡ r .scans
 
--- on with the refreshed record, or the refusal
+-- R40: on with the refreshed record, or the refusal
 abbrev pub andThen : Refreshed → (Rec → Refreshed) → Refreshed
 andThen (done r) f = f r
 andThen (refused a) f = refused a
 
--- a chain of refreshes: at one state after the other, as long as none refuses
+-- R40: refreshed at one state after the other, as long as none refuses
 unfoldable pub chain : List State → Rec → Refreshed
 chain [] r = done r
 chain (S ∷ Ss) r = andThen (refresh S (some r)) (chain Ss)

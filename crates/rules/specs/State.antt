@@ -6,42 +6,42 @@ use mathlib.Core.List.{List, [], _∷_, List·Memᴰ as Mem}
 use mathlib.Core.Option.{Option, none, some}
 use lib.ListN.{length}
 
--- a kept key, the position of its last committed write, and its payload, or none for a tombstone
+-- R17: a kept key, the position of its last committed write, and its payload, or none for a tombstone
 pub record Entry : Type 0 where
   pub key : ℕ
   pub position : ℕ
   pub payload : Option ℕ
 
--- its key
+-- R17: its key
 abbrev pub keyIn : Entry → ℕ
 keyIn e = e .key
 
--- the two limits, the position of the last record, and the entries of the kept keys, which rise by key
+-- R17: N, Z, p, and an entry for each kept key, in rising order of the keys
 pub record State : Type 0 where
   pub N : ℕ
   pub Z : ℕ
   pub p : ℕ
   pub kept : List Entry
 
--- the state before the first record
+-- R17: before the first record
 abbrev pub fresh : ℕ → ℕ → State
 fresh N Z = record { N = N; Z = Z; p = 0; kept = [] }
 
--- a payload, and no tombstone
+-- R17: a payload, and no tombstone
 abbrev pub isLive : Option ℕ → Bool
 isLive none = false
 isLive (some x) = true
 
--- positions end at 4,294,967,295
+-- R2: the last position
 abbrev pub lastPosition : ℕ
 lastPosition = 4294967295
 
--- the keys rise strictly from low on, all below top
+-- R17: the keys rise strictly from low on, all below top
 pub data Rising (top : ℕ) : ℕ → List Entry → Type 0 where
   end : {low : ℕ} → low ≤ top → Rising top low []
   link : {low : ℕ} {e : Entry} {es : List Entry} → low ≤ e .key → Rising top (e .key + 1) es → Rising top low (e ∷ es)
 
--- a payload has eight bytes
+-- R2: a payload fits eight bytes
 abbrev pub Fits : Option ℕ → Type 0
 Fits none = Unit
 Fits (some x) = x < 2 ^ 64

@@ -16,7 +16,7 @@ use Rattle.rules.specs.Verdict.{verdict, verdictAnswer, next}
 use Rattle.rules.specs.Log.{after}
 use Rattle.rules.specs.Tree.{looksOf}
 
--- a line of the table: position, record, the record's bytes, answer, looks
+-- R44: a line of the table: position, record, the record's bytes, answer, looks
 pub record Row : Type 0 where
   pub v : ℕ
   pub rec : Rec
@@ -24,15 +24,15 @@ pub record Row : Type 0 where
   pub answer : Answer
   pub looks : ℕ
 
--- a line, with the record in words
+-- R44: a line, with the record in words
 abbrev pub row : ℕ → ℕ → List Point → List Scan → List ℕ → Answer → ℕ → Row
 row v s ps cs bytes a looks = record { v = v; rec = record { snapshot = s; points = ps; scans = cs }; bytes = bytes; answer = a; looks = looks }
 
--- a scan, low and high
+-- R7: a scan, by its low and high
 abbrev pub scan : ℕ → ℕ → Scan
 scan low high = record { low = low; high = high }
 
--- the eleven rows, for N = 3 and Z = 4
+-- R44: the eleven rows, for N = 3 and Z = 4
 unfoldable pub rows : List Row
 rows =
     row 1 0 (Put 10 100 ∷ Put 20 200 ∷ []) []
@@ -69,7 +69,7 @@ rows =
     (0x00 ∷ 0x07 ∷ 0x01 ∷ 0x00 ∷ 0x00 ∷ 0x00 ∷ 0x0A ∷ 0x00 ∷ 0x00 ∷ [])
     Names.committed 1 ∷ []
 
--- what melding says: position, answer, looks
+-- R41: what is told of a record: position, answer, looks
 pub record Line : Type 0 where
   pub v : ℕ
   pub answer : Answer
@@ -79,22 +79,22 @@ pub record Line : Type 0 where
 abbrev pub lineOf : Row → Line
 lineOf x = record { v = x .v; answer = x .answer; looks = x .looks }
 
--- a log of records' bytes, melded one after the other
+-- R41: what is told of records' bytes melded one after the other
 unfoldable pub run : State → List (List ℕ) → List Line
 run S [] = []
 run S (b ∷ bs) =
     record { v = S .p + 1; answer = verdictAnswer (verdict S (parse b)); looks = looksOf S (parse b) } ∷ run (next S (parse b)) bs
 
--- the record of a line
+-- R44: the record of a line
 abbrev pub recOf : Row → Rec
 recOf x = x .rec
 
--- its bytes
+-- R44: its bytes
 abbrev pub bytesIn : Row → List ℕ
 bytesIn x = x .bytes
 
--- the eleven rows and the two byte strings, under a single statement: each record is these bytes and parses from them, melding the bytes
--- says what the table says, and so on
+-- R44: the eleven rows under a single statement: each record is these bytes and parses from them, melding the bytes tells what the table
+-- tells, and the keys kept at the end
 pub record Table : Type 0 where
   pub written : map bytesOf (map recOf rows) ≡ map bytesIn rows
   pub read : map parse (map bytesIn rows) ≡ map some (map recOf rows)

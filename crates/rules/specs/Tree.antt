@@ -14,27 +14,27 @@ use Rattle.rules.specs.State.{Entry, State, isLive}
 use Rattle.rules.specs.Footprint.{reach, meets}
 use Rattle.rules.specs.Verdict.{Verdict, committed, conflict, tooOld, noRoom, malformed, ahead, positionsUsedUp, verdict}
 
--- a leaf holds an entry; node h low l r splits at bit h − 1 and covers low .. low + 2 ^ h − 1
+-- R32: a leaf for a kept key; node h low l r splits at bit h − 1 and covers low .. low + 2 ^ h − 1
 pub data Tree : Type 0 where
   empty : Tree
   leaf : Entry → Tree
   node : ℕ → ℕ → Tree → Tree → Tree
 
--- it holds nothing
+-- R32: it holds nothing
 abbrev pub isEmpty : Tree → Bool
 isEmpty empty = true
 isEmpty (leaf e) = false
 isEmpty (node h low l r) = false
 
--- a node stands only where both sides hold something
+-- R32: a node stands only where both sides hold something
 abbrev pub join : ℕ → ℕ → Tree → Tree → Tree
 join h low l r = if isEmpty l then r else if isEmpty r then l else node h low l r
 
--- an entry with bit h 0, among those that share all bits above it: middle is the first key there with bit h 1
+-- R32: an entry with the bit 0, among those that share all bits above it: middle is the first key there with the bit 1
 abbrev pub below : ℕ → Entry → Bool
 below middle e = ltb (e .key) middle
 
--- an entry with bit h 1
+-- R32: an entry with the bit 1
 abbrev pub from : ℕ → Entry → Bool
 from middle e = leb middle (e .key)
 
@@ -51,7 +51,7 @@ treeOf (suc h) low (e ∷ e′ ∷ es) =
     (treeOf h low (keep (below middle) (e ∷ e′ ∷ es)))
     (treeOf h middle (keep (from middle) (e ∷ e′ ∷ es)))
 
--- the leaves, from the left
+-- R32: the leaves, from the left
 unfoldable pub entries : Tree → List Entry
 entries empty = []
 entries (leaf e) = e ∷ []
@@ -63,11 +63,11 @@ newest empty = 0
 newest (leaf e) = e .position
 newest (node h low l r) = max (newest l) (newest r)
 
--- the number that says "no tombstone here"
+-- R27: the number that says that there is no tombstone in a subtree
 abbrev pub noTombstone : ℕ
 noTombstone = 4294967295
 
--- the smallest position of a tombstone in a subtree, noTombstone if there is none: a pool keeps it to find old tombstones by
+-- R27: the smallest position of a tombstone in a subtree. No rule asks for it: a pool keeps it to find old tombstones by (docs/LAYOUT.md)
 unfoldable pub oldest : Tree → ℕ
 oldest empty = noTombstone
 oldest (leaf e) = if isLive (e .payload) then noTombstone else e .position
@@ -79,7 +79,7 @@ first empty = 0
 first (leaf e) = e .key
 first (node h low l r) = low
 
--- the first number past what it covers
+-- R33: the first number past what it covers
 abbrev pub past : Tree → ℕ
 past empty = 0
 past (leaf e) = e .key + 1
@@ -87,7 +87,7 @@ past (node h low l r) = low + 2 ^ h
 
 -- LOOKS
 
--- whether the search found the conflict, and how many nodes it looked at
+-- R35: whether the search found the conflict, and how many nodes it looked at
 pub record Walked : Type 0 where
   pub found : Bool
   pub looks : ℕ
@@ -96,11 +96,11 @@ pub record Walked : Type 0 where
 abbrev pub goesOn : ℕ → List Scan → Tree → Bool
 goesOn s f t = ltb s (newest t) && meets f (first t) (past t)
 
--- a look that stops
+-- R35: one look, and no further
 abbrev pub stop : Walked
 stop = record { found = false; looks = 1 }
 
--- the left child, and then, if no conflict was found there, the right
+-- R35: this node's look, the left side's, and, if no conflict was found there, the right side's
 abbrev pub descend : Walked → Walked → Walked
 descend l r = record { found = l .found || r .found; looks = if l .found then 1 + l .looks else 1 + l .looks + r .looks }
 
@@ -110,7 +110,7 @@ walk s f empty = record { found = false; looks = 0 }
 walk s f (leaf e) = record { found = goesOn s f (leaf e); looks = 1 }
 walk s f (node h low l r) = if goesOn s f (node h low l r) then descend (walk s f l) (walk s f r) else stop
 
--- the search starts at the root
+-- R35: the search starts at the root
 abbrev pub walkOf : State → Option Rec → Walked
 walkOf S none = record { found = false; looks = 0 }
 walkOf S (some r) = walk (r .snapshot) (reach r) (treeOf 32 0 (S .kept))
@@ -125,11 +125,11 @@ looksFor n malformed = 0
 looksFor n ahead = 0
 looksFor n positionsUsedUp = 0
 
--- the looks that a meld reports
+-- R36: the looks that a meld reports
 unfoldable pub looksOf : State → Option Rec → ℕ
 looksOf S m = looksFor (walkOf S m .looks) (verdict S m)
 
--- the first search finds what the second finds, in no more looks
+-- R40: the first search finds what the second finds, in no more looks
 pub record NoMoreLooks (w′ w : Walked) : Type 0 where
   pub finds : w′ .found ≡ w .found
   pub looks-le : w′ .looks ≤ w .looks

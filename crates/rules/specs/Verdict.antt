@@ -16,7 +16,7 @@ use Rattle.rules.specs.Lists.{any, keep, distinct}
 use Rattle.rules.specs.State.{Entry, State, keyIn, isLive, lastPosition}
 use Rattle.rules.specs.Footprint.{reach, meets, writesOf}
 
--- what a meld answers
+-- R23: what a meld can answer where the pool is fit
 pub data Verdict : Type 0 where
   committed : Verdict
   conflict : Verdict
@@ -26,7 +26,7 @@ pub data Verdict : Type 0 where
   ahead : Verdict
   positionsUsedUp : Verdict
 
--- the number of each, by its one name
+-- R3: the number of each
 abbrev pub verdictAnswer : Verdict → Answer
 verdictAnswer committed = Names.committed
 verdictAnswer conflict = Names.conflict
@@ -38,7 +38,7 @@ verdictAnswer positionsUsedUp = Names.positionsUsedUp
 
 -- AHEAD, TOO OLD, CONFLICT
 
--- an entry whose key is named or scanned and which was written above s
+-- R24: an entry that is named or scanned, and written above s
 unfoldable pub hits : ℕ → List Scan → Entry → Bool
 hits s f e = ltb s (e .position) && meets f (e .key) (e .key + 1)
 
@@ -60,7 +60,7 @@ refusalOr S s f other =
 
 -- WHAT A COMMIT LEAVES
 
--- an entry in its place among entries that rise by key, instead of the one of its key
+-- R28: an entry in its place among entries that rise by key, instead of the one of its key
 unfoldable pub store : Entry → List Entry → List Entry
 store e [] = e ∷ []
 store e (x ∷ xs) =
@@ -68,12 +68,12 @@ store e (x ∷ xs) =
     if ltb (x .key) (e .key) then x ∷ store e xs else
     e ∷ xs
 
--- several, one after the other
+-- R28: several, one after the other
 unfoldable pub storeAll : List Entry → List Entry → List Entry
 storeAll [] kept = kept
 storeAll (e ∷ es) kept = storeAll es (store e kept)
 
--- at v: live, or a tombstone w with w + Z > v; the others are old
+-- R26: live at v, or a tombstone w with w + Z > v; R27: the others are old
 unfoldable pub young : ℕ → ℕ → Entry → Bool
 young Z v e = isLive (e .payload) || ltb v (e .position + Z)
 
@@ -103,7 +103,7 @@ apply S ps = if drops S ps then lean S ps else whole S ps
 abbrev pub counted : State → List Point → List ℕ
 counted S ps = map keyIn (keep (young (S .Z) (S .p + 1)) (S .kept)) ++ map keyIn (writesOf (S .p + 1) ps)
 
--- how many they are, each counted once
+-- R26: how many keys have to find room
 unfoldable pub count : State → List Point → ℕ
 count S ps = length (distinct (counted S ps))
 
@@ -113,22 +113,22 @@ noRoomOrCommitted S ps = if ltb (S .N) (count S ps) then noRoom else committed
 
 -- THE VERDICT
 
--- rows 5, 2, 1, 3, 0
+-- R23: rows 5, 2, 1, 3 and 0
 unfoldable pub judge : State → Rec → Verdict
 judge S r = refusalOr S (r .snapshot) (reach r) (noRoomOrCommitted S (r .points))
 
--- row 4 before them; none stands for bytes that are not well formed
+-- R23: row 4 before them; none stands for bytes that are no well-formed record
 abbrev pub formed : State → Option Rec → Verdict
 formed S none = malformed
 formed S (some r) = judge S r
 
--- row 6 before all
+-- R23: row 6 before all. Row 7 concerns bytes that mean no state
 unfoldable pub verdict : State → Option Rec → Verdict
 verdict S m = if leb lastPosition (S .p) then positionsUsedUp else formed S m
 
 -- LEFT BEHIND
 
--- the points of a record, none where it is malformed
+-- R9: the points of a record, none where it is malformed
 abbrev pub pointsOf : Option Rec → List Point
 pointsOf none = []
 pointsOf (some r) = r .points
@@ -147,6 +147,6 @@ left S ps malformed = step S (S .kept)
 left S ps ahead = step S (S .kept)
 left S ps positionsUsedUp = S
 
--- the state after a record
+-- R29: the state after a record
 unfoldable pub next : State → Option Rec → State
 next S m = left S (pointsOf m) (verdict S m)

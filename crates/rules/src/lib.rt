@@ -1,1 +1,1 @@
-// Document 01 as definitions (specs/) and the theorems about them (proofs/). No function stands here.
+// The rules of docs/RULES.md as definitions (specs/) and the theorems about them (proofs/). No function stands here.

@@ -1,7 +1,8 @@
--- Document 01, "The record": which record lent lists name, and what the writer answers and leaves in its output.
+-- Which record lent lists name, and what the writer answers and leaves in its output.
 -- Assumes nothing: these are definitions.
 use Prim.Native.Nat.{ℕ, _+_, _^_, _<_}
 use mathlib.Core.Bool.{_&&_}
+use mathlib.Core.Path.{_≡_}
 use mathlib.Core.Option.{Option, none, some}
 use mathlib.Core.List.{List, [], _∷_, map}
 use lib.ListN.{length, getD}
@@ -23,7 +24,8 @@ use Rattle.record.specs.Parse.{Parsed, bad, took, afterPoint, afterScan, onTook
 use Rattle.record.specs.Reader.{Lists, lists, lowOf, highOf, front}
 use Rattle.writer.specs.declared.Written.{Written}
 
--- the point that a kind, a key and a payload name, with its size, if its kind is known, the payload of a read or delete is 0 and the key is at least low
+-- R10: the point that a kind, a key and a payload name, with its size, if its kind is known, the payload of a read or delete is 0 and the
+-- key is at least low
 unfoldable pub pointNamed : ℕ → ℕ → ℕ → ℕ → PointStep
 pointNamed low kind key payload =
     if ltb key low then PointStep.Bad else
@@ -32,14 +34,15 @@ pointNamed low kind key payload =
     then (if eqb kind 1 then PointStep.Next (Read key) 5 else if eqb kind 3 then PointStep.Next (Delete key) 5 else PointStep.Bad)
     else PointStep.Bad
 
--- the scan from low to high, if low is at least the floor and at most high
+-- R10: the scan from low to high, if low is at least the floor and at most high
 unfoldable pub scanNamed : ℕ → ℕ → ℕ → ScanStep
 scanNamed floor low high =
     if ltb low floor then ScanStep.Bad else
     if ltb high low then ScanStep.Bad else
     ScanStep.Next (record { low = low; high = high })
 
--- the points that kinds, keys and payloads name, three lists of equal length, each key above the one before; and the place past their bytes
+-- R10: the points that kinds, keys and payloads name, three lists of equal length, each key above the one before; and the place past their
+-- bytes
 unfoldable pub namedPoints : ℕ → List ℕ → List ℕ → List ℕ → ℕ → Parsed Point
 namedPoints low [] [] [] at = took [] at
 namedPoints low [] [] (x ∷ xs) at = bad
@@ -48,21 +51,21 @@ namedPoints low (k ∷ ks) [] xs at = bad
 namedPoints low (k ∷ ks) (e ∷ es) [] at = bad
 namedPoints low (k ∷ ks) (e ∷ es) (x ∷ xs) at = afterPoint (pointNamed low k e x) (λ p size. namedPoints (keyOf p + 1) ks es xs (at + size))
 
--- the scans that lows and highs name, two lists of equal length, each low above the high before it; and the place past their bytes
+-- R10: the scans that lows and highs name, two lists of equal length, each low above the high before it; and the place past their bytes
 unfoldable pub namedScans : ℕ → List ℕ → List ℕ → ℕ → Parsed Scan
 namedScans floor [] [] at = took [] at
 namedScans floor [] (h ∷ hs) at = bad
 namedScans floor (l ∷ ls) [] at = bad
 namedScans floor (l ∷ ls) (h ∷ hs) at = afterScan (scanNamed floor l h) (λ c. namedScans (c .high + 1) ls hs (at + 8))
 
--- the record that the lists name, if they keep every rule
+-- R10: the record that the lists name, if they keep every rule
 unfoldable pub recordOf : ℕ → Lists → Option Rec
 recordOf snapshot l =
     onTook (namedPoints 0 (l .kinds) (l .keys) (l .payloads) 9) λ ps at.
     onTook (namedScans 0 (l .lows) (l .highs) at) λ cs end.
     if leb (length ps) maxPoints && leb (length cs) maxScans then some (record { snapshot = snapshot; points = ps; scans = cs }) else none
 
--- the lists that name a record
+-- R10: the lists that name a record
 abbrev pub listsOf : Rec → Lists
 listsOf r =
     lists (map kindOf (r .points)) (map keyOf (r .points)) (map payloadOf (r .points)) (map lowOf (r .scans)) (map highOf (r .scans))
@@ -74,16 +77,16 @@ pub record Fitting (snapshot : ℕ) (l : Lists) : Type 0 where
   pub payloads-fit : (i : ℕ) → getD (l .payloads) i 0 < 2 ^ 64
   pub highs-fit : (i : ℕ) → getD (l .highs) i 0 < 2 ^ 32
 
--- what a call gives back and what it leaves in the output
+-- R10: what a call gives back and what it leaves in the output
 pub record WriteOutcome : Type 0 where
   pub written : Written
   pub left : List ℕ
 
--- the two together
+-- R10: the two together
 abbrev pub writeOutcome : Written → List ℕ → WriteOutcome
 writeOutcome w l = record { written = w; left = l }
 
--- "its size is given (0 on a refusal)"
+-- R10: the size is 0 on a refusal
 abbrev pub writeRefused : Answer → Written
 writeRefused a = record { answer = a; size = 0 }
 
@@ -91,7 +94,7 @@ writeRefused a = record { answer = a; size = 0 }
 abbrev pub writtenOf : List ℕ → Written
 writtenOf bytes = record { answer = committed; size = length bytes }
 
--- "writeRefused with 4, then short output with 8; both leave the output untouched. On 0 the record stands at the front of the output, the rest is as before"
+-- R10: what the writer answers and leaves, the first row that applies
 unfoldable pub writeOf : Option Rec → List ℕ → WriteOutcome
 writeOf none output = writeOutcome (writeRefused malformed) output
 writeOf (some r) output =
@@ -99,7 +102,11 @@ writeOf (some r) output =
     then writeOutcome (writtenOf (bytesOf r)) (front (bytesOf r) output)
     else writeOutcome (writeRefused outputShort) output
 
--- the size of the record named, if there is one: what the first pass over the lists finds
+-- R8: the size of the record named, if there is one: what the first pass over the lists finds
 abbrev pub sizeEnd : Option Rec → End
 sizeEnd none = End.Bad
 sizeEnd (some r) = End.At (length (bytesOf r))
+
+-- R10: what `write` promises of a snapshot, the lists and the output as it was: what it gives back, and the output afterwards
+abbrev pub WritesAs : ℕ → Lists → List ℕ → Written → List ℕ → Type 0
+WritesAs snapshot l before w after = writeOutcome w after ≡ writeOf (recordOf snapshot l) before

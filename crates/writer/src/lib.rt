@@ -11,7 +11,7 @@ use store::put_points;
 use store::put_scans;
 ghost use mathlib.Core.Path.{_≡_};
 ghost use Rattle.record.specs.Reader.{lists};
-ghost use Rattle.writer.specs.Writer.{recordOf, writeOutcome, writeRefused, writeOf};
+ghost use Rattle.writer.specs.Writer.{writeRefused, WritesAs};
 
 // What the writer gives back beside the output: the answer, and on 0 the record's size in bytes.
 pub struct Written {
@@ -37,10 +37,9 @@ pub fn write(
     highs: &[u32],
     output: &mut [u8],
 ) -> Written
-    ensures { λ r. ⌜ writeOutcome r (now (output .exit))
-        ≡ writeOf (recordOf snapshot
-        (lists (now (kinds .entry)) (now (keys .entry)) (now (payloads .entry)) (now (lows .entry)) (now (highs .entry))))
-        (now (output .entry)) ⌝ }
+    ensures { λ r. ⌜ WritesAs snapshot
+        (lists (now (kinds .entry)) (now (keys .entry)) (now (payloads .entry)) (now (lows .entry)) (now (highs .entry)))
+        (now (output .entry)) r (now (output .exit)) ⌝ }
 {
     let End::At(size) = named_size(kinds, keys, payloads, lows, highs) else {
         return refusal(Answer::MALFORMED);
