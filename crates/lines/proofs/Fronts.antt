@@ -6,15 +6,15 @@ use mathlib.Core.List.{List, [], _∷_, _++_}
 use mathlib.Core.Logic.{⊎-elim}
 use native.Mathlib.Omega.{arith}
 use lib.ListN.{length, length-append}
-use borrow.Author.Tests.{eq-eqb}
 use denote.Ref.{RefT, now}
 use denote.Enum.Declared.{tagOf}
 use types.Run.{OneOf}
 use Rattle.log.specs.declared.found.Cut.{Cut}
 use Rattle.log.specs.declared.found.Cut.the-variants.{End, Broken, Record}
-use Rattle.log.specs.Log.{cutAt, CutIs, HandedOut}
+use Rattle.log.specs.Log.{cutAt, cutTold, CutIs, HandedOut}
 use Rattle.log.proofs.found.Cut as T
 use Rattle.log.proofs.Stands.{record-tells, end-found}
+use Rattle.log.proofs.Told.{cut-case}
 use Rattle.log_reader.specs.declared.Move.{Move}
 use Rattle.log_reader.specs.LogReader.{Moved}
 use Rattle.meld.specs.declared.melding.Melded.{Melded}
@@ -50,7 +50,7 @@ module _ (log : List ℕ) (position : ℕ) (m : List ℕ) (bytes : ℕ) (m′ : 
   -- past a record, the place is further on and inside
   pub further : (v : Move) (next : ℕ) → Moved log bytes v → v .found ≡ Record next → (bytes < next) × (next ≤ length log)
   further v next k e =
-      let r = record-tells log bytes next (sym (k .found .case) ∙ e) in
+      let r = record-tells log bytes next (sym (cut-case log bytes (v .found) (k .found)) ∙ e) in
       (omega (arith, r .past), r .inside)
 
   -- a record's line
@@ -83,7 +83,7 @@ module _ (log : List ℕ) (position : ℕ) (m : List ℕ) (bytes : ℕ) (m′ : 
       record {
         answers = s .answers;
         read = s .read;
-        found = record { case = sym (end-found log bytes e); number = simp (eq-eqb _ _ e) };
+        found = record { told = ap cutTold (sym (end-found log bytes e)) };
         over = tt;
         position-is = s .position-is;
       }
