@@ -13,7 +13,7 @@ use Rattle.record.specs.declared.point.Point.{Point}
 use Rattle.record.specs.declared.point.Scan.{Scan}
 use Rattle.record.specs.declared.reader.Reading.{Reading}
 use Rattle.record.specs.Record.{kindOf, keyOf, payloadOf, KindIs, KeyIs, PayloadIs}
-use Rattle.record.specs.Parse.{parse, checkOf, Checked}
+use Rattle.record.specs.Parse.{parse, checkOf, CheckIs}
 use Rattle.record.specs.Reader.{Lists, lists, lowOf, highOf, ReadOutcome, readOutcome, ReadsAs}
 use Rattle.writer.specs.declared.Written.{Written}
 use Rattle.writer.specs.Writer.{WriteOutcome, writeOutcome, WritesAs}
@@ -48,7 +48,7 @@ use Rattle.demands.specs.Answers.{OneAnswer}
 pub one-if-equal : {A : Type 0} (z : A) → OneAnswer (λ (x : A). x ≡ z)
 one-if-equal z x y e f = e ∙ sym f
 
-pub check-one : (bytes : List ℕ) → OneAnswer (Checked bytes)
+pub check-one : (bytes : List ℕ) → OneAnswer (CheckIs bytes)
 check-one bytes = one-if-equal (checkOf (parse bytes))
 
 pub kind-one : (q : Point) → OneAnswer (KindIs q)

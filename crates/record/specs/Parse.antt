@@ -124,5 +124,5 @@ checkOf none = malformed
 checkOf (some r) = committed
 
 -- R11: what `check` promises of its answer
-abbrev pub Checked : List ℕ → Answer → Type 0
-Checked bytes a = a ≡ checkOf (parse bytes)
+abbrev pub CheckIs : List ℕ → Answer → Type 0
+CheckIs bytes a = a ≡ checkOf (parse bytes)

@@ -11,7 +11,7 @@ use words::word8;
 ghost use mathlib.Core.Path.{_≡_};
 ghost use Prim.Native.Nat.{_≤_};
 ghost use lib.ListN.{length};
-ghost use Rattle.record.specs.Parse.{stepPoint, stepScan, parsePoints, parseScans, endOf, Checked};
+ghost use Rattle.record.specs.Parse.{stepPoint, stepScan, parsePoints, parseScans, endOf, CheckIs};
 
 // What stands at a place: a point with its size in bytes, or none that is well formed.
 pub enum PointStep {
@@ -128,7 +128,7 @@ fn scans_end(bytes: &[u8], start: usize, count: usize) -> End
 
 // 0 where the bytes are exactly one well-formed record, 4 where they are not. Any bytes of any length may be lent.
 pub fn check(bytes: &[u8]) -> Answer
-    ensures { λ r. ⌜ Checked (now (bytes .entry)) r ⌝ }
+    ensures { λ r. ⌜ CheckIs (now (bytes .entry)) r ⌝ }
 {
     if bytes.len() < 9 {
         return Answer::MALFORMED;

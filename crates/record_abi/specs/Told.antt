@@ -3,7 +3,7 @@
 use Prim.Native.Nat.{ℕ, _<_}
 use mathlib.Core.Path.{_≡_}
 use mathlib.Core.List.{List}
-use Rattle.record.specs.Parse.{Checked}
+use Rattle.record.specs.Parse.{CheckIs}
 use Rattle.log.specs.declared.found.Cut.the-variants.{End, Broken, Record}
 use Rattle.log.specs.Log.{cutAt}
 use Rattle.record_abi.specs.declared.numbers.CutNumbers.{CutNumbers}
@@ -11,7 +11,7 @@ use Rattle.record_abi.specs.Numbers.{answer, ofCut}
 
 -- the number of the check's answer (R11)
 abbrev pub ChecksAs : List ℕ → ℕ → Type 0
-ChecksAs bytes n = Checked bytes (answer n)
+ChecksAs bytes n = CheckIs bytes (answer n)
 
 -- what is told of a place of a log, as numbers (R14)
 abbrev pub CutsAs : List ℕ → ℕ → CutNumbers → Type 0

@@ -26,11 +26,11 @@ bytes-decided : (x y : List ℕ) → Dec (x ≡ y)
 bytes-decided x y = List-discrete ℕ-discrete x y
 
 module _ (m original before : List ℕ) where
-  -- one refreshOutcome if the pool is fit
+  -- one outcome if the pool is fit
   meets : (a b : Answer) (x y : List ℕ) → RefreshIs m original before a x → RefreshIs m original before b y → Fit m → refreshOutcome a x ≡ refreshOutcome b y
   meets a b x y r s f = r .fit (f .arrangement) (f .image) ∙ sym (s .fit (f .arrangement) (f .image))
 
-  -- one refreshOutcome if it is not
+  -- one outcome if it is not
   misses : (a b : Answer) (x y : List ℕ) → RefreshIs m original before a x → RefreshIs m original before b y → (Fit m → ⊥) → refreshOutcome a x ≡ refreshOutcome b y
   misses a b x y r s n = r .unfit n ∙ sym (s .unfit n)
 

@@ -1,5 +1,5 @@
 -- `log_reader_demo::second_place` meets its contract, by a walk of its MIR: a new reader is stored in a local, lent to `step` by `&mut`, and lent to
--- `place` by `&`, each time for a lifetime of the call (Lent.antt of `walker`). Of the three the walk knows their promises alone.
+-- `place` by `&`, each time for a lifetime of the call (Lent.antt of `log_reader`). Of the three the walk knows their promises alone.
 -- Assumes nothing.
 use mathlib.Core.Path.{_≡_, refl, ap, _∙_}
 use Prim.Native.Nat.{ℕ, _<_, _^_}
