@@ -197,7 +197,7 @@ static bool parse(const uint8_t *at, uint64_t length, struct record *r) {
 
 uint8_t plain_check(const uint8_t *record, uint64_t length) {
     struct record r;
-    return parse(record, length, &r) ? 0 : 4;
+    return parse(record, length, &r) ? EMUPARASOL_COMMITTED : EMUPARASOL_MALFORMED;
 }
 
 uint8_t plain_read(const uint8_t *record, uint64_t length, uint8_t *kinds, uint64_t kinds_length, uint32_t *keys, uint64_t keys_length,
@@ -207,10 +207,10 @@ uint8_t plain_read(const uint8_t *record, uint64_t length, uint8_t *kinds, uint6
     *snapshot = 0;
     *points = *scans = 0;
     if (!parse(record, length, &r))
-        return 4;
+        return EMUPARASOL_MALFORMED;
     uint64_t many = (uint64_t)r.points, pairs = (uint64_t)r.scans;
     if (kinds_length < many || keys_length < many || payloads_length < many || lows_length < pairs || highs_length < pairs)
-        return 8;
+        return EMUPARASOL_OUTPUT_SHORT;
     memcpy(kinds, r.kinds, many);
     memcpy(keys, r.keys, 4 * many);
     memcpy(payloads, r.payloads, 8 * many);
@@ -219,7 +219,7 @@ uint8_t plain_read(const uint8_t *record, uint64_t length, uint8_t *kinds, uint6
     *snapshot = r.snapshot;
     *points = many;
     *scans = pairs;
-    return 0;
+    return EMUPARASOL_COMMITTED;
 }
 
 uint8_t plain_write(uint32_t snapshot, const uint8_t *kinds, uint64_t kinds_length, const uint32_t *keys, uint64_t keys_length,
@@ -227,19 +227,19 @@ uint8_t plain_write(uint32_t snapshot, const uint8_t *kinds, uint64_t kinds_leng
                     uint64_t highs_length, uint8_t *output, uint64_t output_length, uint64_t *size) {
     uint64_t length = 9 + 8 * lows_length;
     *size = 0;
-    if (kinds_length > MOST_POINTS || keys_length != kinds_length || payloads_length != kinds_length || lows_length > MOST_SCANS ||
+    if (kinds_length > EMUPARASOL_MOST_POINTS || keys_length != kinds_length || payloads_length != kinds_length || lows_length > EMUPARASOL_MOST_SCANS ||
         highs_length != lows_length)
-        return 4;
+        return EMUPARASOL_MALFORMED;
     for (uint64_t i = 0; i < kinds_length; i++) {
         if (kinds[i] - 1u > 2 || (kinds[i] != 2 && payloads[i] != 0) || (i > 0 && keys[i] <= keys[i - 1]))
-            return 4;
+            return EMUPARASOL_MALFORMED;
         length += kinds[i] == 2 ? 13 : 5;
     }
     for (uint64_t i = 0; i < lows_length; i++)
         if (lows[i] > highs[i] || (i > 0 && lows[i] <= highs[i - 1]))
-            return 4;
+            return EMUPARASOL_MALFORMED;
     if (output_length < length)
-        return 8;
+        return EMUPARASOL_OUTPUT_SHORT;
     uint8_t *at = output;
     *at++ = (uint8_t)((length - 2) >> 8);
     *at++ = (uint8_t)(length - 2);
@@ -263,29 +263,29 @@ uint8_t plain_write(uint32_t snapshot, const uint8_t *kinds, uint64_t kinds_leng
         set(at + 4, highs[i]);
     }
     *size = length;
-    return 0;
+    return EMUPARASOL_COMMITTED;
 }
 
 uint8_t plain_cut(const uint8_t *log, uint64_t log_length, uint64_t place, uint64_t *next) {
     *next = place;
     if (place == log_length)
-        return 0;
+        return EMUPARASOL_COMMITTED;
     if (place > log_length || log_length - place < 2)
-        return 10;
+        return EMUPARASOL_BROKEN_LOG;
     uint64_t length = (uint64_t)(log[place] << 8 | log[place + 1]);
     if (length < 7 || length > 903 || log_length - place < 2 + length)
-        return 10;
+        return EMUPARASOL_BROKEN_LOG;
     *next = place + 2 + length;
-    return 0;
+    return EMUPARASOL_COMMITTED;
 }
 
 bool plain_in_force(uint8_t answer, const uint8_t *original, uint64_t original_length, const uint8_t *refreshed, uint64_t refreshed_length,
                     uint64_t *offset, uint64_t *length) {
     (void)original;
     *offset = *length = 0;
-    if (answer == 5)
+    if (answer == EMUPARASOL_AHEAD)
         *length = original_length;
-    return answer == 0 && plain_cut(refreshed, refreshed_length, 0, length) == 0 && *length > 0;
+    return answer == EMUPARASOL_COMMITTED && plain_cut(refreshed, refreshed_length, 0, length) == EMUPARASOL_COMMITTED && *length > 0;
 }
 
 /* The conflict walk: from left to right, with a cursor into the points and one into the scans. */
@@ -317,22 +317,22 @@ uint8_t plain_refresh(const uint8_t *pool, uint64_t pool_length, const uint8_t *
                       uint64_t output_length) {
     struct record r;
     if (!fits(pool, pool_length))
-        return 7;
+        return EMUPARASOL_UNFIT_POOL;
     uint32_t p = get(pool + POSITION);
     if (!parse(original, original_length, &r))
-        return 4;
+        return EMUPARASOL_MALFORMED;
     if (r.snapshot > p)
-        return 5;
+        return EMUPARASOL_AHEAD;
     if (p - r.snapshot > get(pool + ZONE))
-        return 2;
+        return EMUPARASOL_TOO_OLD;
     struct walk w = {pool, &r, 0, 0, 0};
     if (get(pool + ROOT) != NONE && conflict(&w, get(pool + ROOT)))
-        return 1;
+        return EMUPARASOL_CONFLICT;
     if (output_length < original_length)
-        return 8;
+        return EMUPARASOL_OUTPUT_SHORT;
     memcpy(output, original, original_length);
     set(output + 3, p);
-    return 0;
+    return EMUPARASOL_COMMITTED;
 }
 
 /* Old tombstones in the tree at node i. */
@@ -359,7 +359,7 @@ static inline void write_node(uint8_t *n, uint32_t height, uint32_t low, uint32_
 
 uint8_t plain_create(uint8_t *pool, uint64_t pool_length, uint32_t n, uint32_t z) {
     if (n - 1 >= 65536 || z - 1 >= 4096 || pool_length != HEAD + 64 * (uint64_t)n)
-        return 9;
+        return EMUPARASOL_BAD_LIMITS;
     memset(pool, 0, HEAD);
     set(pool + MARK, 0x454D5031u);
     set(pool + LIMIT, n);
@@ -367,7 +367,7 @@ uint8_t plain_create(uint8_t *pool, uint64_t pool_length, uint32_t n, uint32_t z
     set(pool + ROOT, NONE);
     for (uint32_t i = 0; i < 2 * n; i++)
         write_node(node_at(pool, i), NONE, i + 1 < 2 * n ? i + 1 : NONE, 2 * n - i, 0, 0, 0, 0);
-    return 0;
+    return EMUPARASOL_COMMITTED;
 }
 
 /* Newest and oldest of an inner node from its children. */
