@@ -5,6 +5,16 @@ const NODE: usize = 32;
 const NONE: u32 = u32::MAX;
 const MARK: u32 = 0x454D_5031;
 
+// The answers (R3).
+const COMMITTED: u8 = 0;
+const CONFLICT: u8 = 1;
+const TOO_OLD: u8 = 2;
+const NO_ROOM: u8 = 3;
+const MALFORMED: u8 = 4;
+const AHEAD: u8 = 5;
+const POSITIONS_USED_UP: u8 = 6;
+const UNFIT_POOL: u8 = 7;
+
 // The words of a node, and those of the header, by their offsets.
 const HEIGHT: usize = 0;
 const LOW: usize = 4;
@@ -443,22 +453,22 @@ fn room(pool: &[u8], r: &Record, limit: u32) -> Room {
 fn meld(pool: &mut [u8], record: &[u8], looks: &mut u32) -> u8 {
     *looks = 0;
     if !fits(pool) {
-        return 7;
+        return UNFIT_POOL;
     }
     let (p, zone) = (get(pool, POSITION), get(pool, ZONE));
     if p == NONE {
-        return 6;
+        return POSITIONS_USED_UP;
     }
     let v = p + 1;
     set(pool, POSITION, v);
     let Some(r) = parse(record) else {
-        return 4;
+        return MALFORMED;
     };
     if r.snapshot > p {
-        return 5;
+        return AHEAD;
     }
     if p - r.snapshot > zone {
-        return 2;
+        return TOO_OLD;
     }
     let mut walk = Walk {
         pool,
@@ -471,11 +481,11 @@ fn meld(pool: &mut [u8], record: &[u8], looks: &mut u32) -> u8 {
     let found = root != NONE && walk.conflict(root);
     *looks = walk.looks;
     if found {
-        return 1;
+        return CONFLICT;
     }
     let limit = v.saturating_sub(zone);
     match room(pool, &r, limit) {
-        Room::TooLittle => return 3,
+        Room::TooLittle => return NO_ROOM,
         Room::AfterDrop => {
             let first = get(pool, FREE);
             let mut f = Freed {
@@ -499,7 +509,7 @@ fn meld(pool: &mut [u8], record: &[u8], looks: &mut u32) -> u8 {
             if r.kinds[i] == 2 { 1 } else { 2 },
         );
     }
-    0
+    COMMITTED
 }
 
 fn lookup(pool: &[u8], key: u32) -> (u8, u64, u32) {
