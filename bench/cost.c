@@ -16,6 +16,7 @@
 
 #include "emuparasol.h"
 #include "plain.h"
+#include "keys.h"
 
 enum { COMBS = 72, PAINTED = 65536, PAINT = 0xA7 };
 
@@ -33,15 +34,6 @@ static struct {
 } beside;
 
 static uint32_t word_at(const uint8_t *at) { return (uint32_t)at[0] << 24 | (uint32_t)at[1] << 16 | (uint32_t)at[2] << 8 | at[3]; }
-
-/* A permutation of all 32-bit numbers: keys look random, and no two are equal. */
-static uint32_t key_of(uint32_t i) {
-    i ^= i >> 16;
-    i *= 0x85EBCA6Bu;
-    i ^= i >> 13;
-    i *= 0xC2B2AE35u;
-    return i ^ i >> 16;
-}
 
 /* The numbers at which the combs stand: spread evenly, so that their paths part early. */
 static uint32_t comb(uint32_t i) { return i * (0xFFFFFFFFu / COMBS) + 0x00654321u; }

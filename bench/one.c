@@ -4,19 +4,11 @@
 #include <stdio.h>
 
 #include "emuparasol.h"
+#include "keys.h"
 
 enum { N = 1000, PAINTED = 16384, PAINT = 0xA7 };
 
 static uint8_t pool[EMUPARASOL_POOL_BYTES(N)];
-
-/* A permutation of all 32-bit numbers: keys look random, and no two are equal. */
-static uint32_t key_of(uint32_t i) {
-    i ^= i >> 16;
-    i *= 0x85EBCA6Bu;
-    i ^= i >> 13;
-    i *= 0xC2B2AE35u;
-    return i ^ i >> 16;
-}
 
 /* A record of puts of these keys. */
 static uint64_t puts_of(uint8_t *record, uint32_t snapshot, uint32_t *named, uint32_t count) {

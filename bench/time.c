@@ -10,6 +10,7 @@
 
 #include "emuparasol.h"
 #include "plain.h"
+#include "keys.h"
 
 uint8_t rust_meld(uint8_t *pool, uint64_t pool_length, const uint8_t *record, uint64_t record_length, uint32_t *looks);
 uint8_t rust_lookup(const uint8_t *pool, uint64_t pool_length, uint32_t key, uint64_t *payload, uint32_t *position);
@@ -22,15 +23,6 @@ static uint8_t (*const lookups[WAYS])(const uint8_t *, uint64_t, uint32_t, uint6
 static uint8_t *pools[WAYS];
 static uint64_t length;
 static uint32_t n, keys, points;
-
-/* A permutation of all 32-bit numbers: keys look random, and no two are equal. */
-static uint32_t key_of(uint32_t i) {
-    i ^= i >> 16;
-    i *= 0x85EBCA6Bu;
-    i ^= i >> 13;
-    i *= 0xC2B2AE35u;
-    return i ^ i >> 16;
-}
 
 static int by_value(const void *a, const void *b) {
     uint32_t x = *(const uint32_t *)a, y = *(const uint32_t *)b;
