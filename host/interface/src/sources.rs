@@ -3,7 +3,7 @@
 use std::fs;
 use std::path::Path;
 
-use crate::{answers, compare_answers, compare_functions, functions};
+use crate::{answers, compare_answers, compare_functions, functions, versions};
 
 /// The texts that have to agree.
 #[derive(Clone, Debug)]
@@ -20,6 +20,8 @@ pub struct Sources {
     pub rattle_answers: String,
     /// `host/emuparasol/src/answer.rs`.
     pub rust_answers: String,
+    /// `host/Cargo.toml`, which has the version.
+    pub cargo: String,
 }
 
 impl Sources {
@@ -35,6 +37,7 @@ impl Sources {
             declared: text("host/emuparasol/src/declared.rs")?,
             rattle_answers: text("crates/record/src/answer.rt")?,
             rust_answers: text("host/emuparasol/src/answer.rs")?,
+            cargo: text("host/Cargo.toml")?,
         })
     }
 
@@ -46,6 +49,7 @@ impl Sources {
         let declared = functions::of_rust(&self.declared)?;
         let answers = answers::of_rattle(&self.rattle_answers)?;
         let header_answers = answers::of_c(&self.header)?;
+        let header_names = answers::of_c_names(&self.header)?;
         let rust_answers = answers::of_rust(&self.rust_answers)?;
         let proved = "the proved source";
         let mut found = compare_functions(proved, &rattle, "the header", &header);
@@ -73,6 +77,13 @@ impl Sources {
             "the header",
             &header_answers,
         ));
+        found.extend(compare_answers(
+            proved,
+            &answers,
+            "emuparasol_answer_name",
+            &header_names,
+        ));
+        found.extend(versions::compare(&self.header, &self.cargo)?);
         found.extend(compare_answers(
             proved,
             &answers,
