@@ -28,7 +28,8 @@ void flash_unlock(void) {
 }
 
 uint64_t flash_read(uint64_t place, uint8_t *to, uint64_t room) {
-    uint64_t count = written - place < room ? written - place : room;
+    uint64_t there = place < written ? written - place : 0;
+    uint64_t count = there < room ? there : room;
     memcpy(to, flash + place, count);
     return count;
 }
