@@ -25,7 +25,7 @@ uint64_t flash_read(uint64_t place, uint8_t *to, uint64_t room);
 bool flash_cut_off(uint64_t place);
 /* Under the lock: puts a record at the log's end. True if all of it is there; else a part from its front may be, and no other bytes. */
 bool flash_append(const uint8_t *record, uint64_t length);
-/* Each verdict is told once after each start of the card. It may be told under the lock, so nothing is submitted from here. */
+/* Each verdict is told once after each start of the card. */
 void card_verdict(struct card *card, uint32_t position, uint8_t answer);
 
 /* What the card does. */

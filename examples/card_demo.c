@@ -22,6 +22,10 @@ static void submit(struct card *card, uint32_t snapshot, uint32_t key, uint64_t 
            answer == EMUPARASOL_COMMITTED ? "appended" : emuparasol_answer_name(answer));
 }
 
+static void left_leases(void) { submit(&left, 0, 7, 100); }
+
+static void erased_bytes(void) { stage_leave((const uint8_t[]){0xFF, 0xFF}, 2); }
+
 /* What the left card says of these bytes behind the last record; then they are taken away again. */
 static void tail(const char *what, const uint8_t *bytes, uint64_t count) {
     uint64_t length = stage_length();
@@ -36,13 +40,12 @@ int main(void) {
     uint8_t record[EMUPARASOL_MOST_RECORD], erased[904];
     uint32_t n, z, position, kept, tombstones;
     stage_clear();
-    /* Both lease port 7 at the same time. The first in the log has it; the other one's record is not even appended. */
-    submit(&left, 0, 7, 100);
+    /* Both lease port 7 at the same time: the left card is the first to get the lock. The right one's record is there too, and every card refuses it. */
+    stage_meanwhile(left_leases);
     submit(&right, 0, 7, 200);
     both_catch_up();
-    /* A card that appends without looking gets its verdict from every card. */
-    stage_leave(record, stage_put(0, 7, 200, record));
-    both_catch_up();
+    /* The loser tries again with what it knew then: its refresh sees the conflict, and nothing is appended. */
+    submit(&right, 0, 7, 200);
     /* With what it knows now, the loser's goes through, though made a record ago. */
     submit(&right, 1, 7, 200);
     both_catch_up();
@@ -68,8 +71,9 @@ int main(void) {
     tail("the length 904", (const uint8_t[]){0x03, 0x88}, 2);
     tail("the length 6", (const uint8_t[]){0x00, 0x06}, 2);
     tail("904 bytes of FF", erased, sizeof erased);
-    /* Nothing is appended behind such bytes. */
-    stage_leave(erased, 2);
+    /* Nothing is appended behind such bytes, also if they come while the card waits for the lock; nor are they cut off. */
+    stage_meanwhile(erased_bytes);
+    submit(&right, 4, 9, 400);
     submit(&right, 4, 9, 400);
     both_catch_up();
     return 0;

@@ -11,6 +11,7 @@ struct card left, right;
 static uint8_t flash[ROOM];
 static uint64_t written, fails_after = ROOM;
 static bool locked;
+static void (*meanwhile)(void);
 
 static void expect(bool holds, const char *what) {
     if (!holds)
@@ -18,6 +19,10 @@ static void expect(bool holds, const char *what) {
 }
 
 void flash_lock(void) {
+    void (*other)(void) = meanwhile;
+    meanwhile = NULL;
+    if (other != NULL)
+        other();
     expect(!locked, "locked twice");
     locked = true;
 }
@@ -54,6 +59,8 @@ void stage_clear(void) {
     card_start(&left);
     card_start(&right);
 }
+
+void stage_meanwhile(void (*other)(void)) { meanwhile = other; }
 
 void stage_fail_after(uint64_t bytes) { fails_after = bytes; }
 

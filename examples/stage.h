@@ -8,6 +8,8 @@ extern struct card left, right;
 
 /* An empty log, and both cards started on it. */
 void stage_clear(void);
+/* What another card does while the next one waits for the lock. */
+void stage_meanwhile(void (*other)(void));
 /* The next append takes so many bytes and fails. */
 void stage_fail_after(uint64_t bytes);
 /* These bytes behind what is in the log, whoever wrote them. */
