@@ -59,8 +59,8 @@ uint8_t card_begin(const struct card *card, uint32_t *snapshot) {
     return emuparasol_status(card->pool, sizeof card->pool, &n, &z, snapshot, &kept, &tombstones);
 }
 
-/* Brings a record that waits up to where the card is, in its own bytes. Answers 0 if it is; 5 if it was made on a card that is further than this one:
-   it is as before, and is good when this card has caught up. After any other answer it can be thrown away. */
+/* Brings a record that waits up to where the card is, in its own bytes. Answers 0 if it is. Answers 5 if it was made on a card that is further than this
+   one, or 7 if the pool was damaged: it is as before, and can be tried again later. After 1, 2 or 4 it can be thrown away. */
 uint8_t card_refresh(const struct card *card, uint8_t *record, uint64_t length) {
     uint8_t output[EMUPARASOL_MOST_RECORD];
     uint64_t offset, size;
@@ -90,7 +90,8 @@ static uint8_t append(uint64_t place, const uint8_t *record, uint64_t length) {
 }
 
 /* Appends a record that was made some time ago, brought up to where the card is. Answers 0 if it is in the log; its verdict comes by card_catch_up. After
-   any other answer it is not: 8 if the flash refused, 7, 6 and 10 as from card_catch_up, and else as card_refresh. */
+   any other answer it is not: 8 if the flash refused, 7 if the pool was damaged (card_start), 6 and 10 as from card_catch_up, 5, 1, 2 and 4 as from
+   card_refresh. */
 uint8_t card_submit(struct card *card, uint8_t *record, uint64_t length) {
     uint8_t answer = card_catch_up(card);
     if (answer == EMUPARASOL_COMMITTED)
