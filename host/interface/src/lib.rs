@@ -2,7 +2,7 @@
 //! (`crates/abi`; the record part alone again in `crates/record_abi`), in
 //! `include/emuparasol.h` and in the Rust declarations
 //! (`emuparasol/src/declared.rs`); the answers also in `crates/record` and in the
-//! Rust enum. This crate reads each of them and says where two differ.
+//! Rust enums. This crate reads each of them and says where two differ.
 //!
 //! It reads the few forms these files use and refuses what it does not know,
 //! so that nothing is passed over.
