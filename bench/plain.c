@@ -135,6 +135,28 @@ static uint8_t *leaf_of(const uint8_t *pool, uint32_t key) {
     }
 }
 
+/* The tombstones below node i; one at position NONE is not told by `oldest` alone. */
+static uint32_t tombstones_below(const uint8_t *pool, uint32_t i, uint32_t position) {
+    const uint8_t *n = node_at(pool, i);
+    if (get(n + OLDEST) > position)
+        return 0;
+    if (get(n + HEIGHT) == 0)
+        return get(n + KIND) == TOMBSTONE;
+    return tombstones_below(pool, get(n + LEFT), position) + tombstones_below(pool, get(n + RIGHT), position);
+}
+
+uint8_t plain_status(const uint8_t *pool, uint64_t pool_length, uint32_t *n, uint32_t *z, uint32_t *position, uint32_t *kept, uint32_t *tombstones) {
+    *n = *z = *position = *kept = *tombstones = 0;
+    if (!fits(pool, pool_length))
+        return EMUPARASOL_UNFIT_POOL;
+    *n = get(pool + LIMIT);
+    *z = get(pool + ZONE);
+    *position = get(pool + POSITION);
+    *kept = get(pool + KEPT);
+    *tombstones = *kept == 0 ? 0 : tombstones_below(pool, get(pool + ROOT), *position);
+    return EMUPARASOL_COMMITTED;
+}
+
 uint8_t plain_lookup(const uint8_t *pool, uint64_t pool_length, uint32_t key, uint64_t *payload, uint32_t *position) {
     *payload = 0;
     *position = 0;

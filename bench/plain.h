@@ -6,6 +6,7 @@
 #include <stdint.h>
 
 uint8_t plain_create(uint8_t *pool, uint64_t pool_length, uint32_t n, uint32_t z);
+uint8_t plain_status(const uint8_t *pool, uint64_t pool_length, uint32_t *n, uint32_t *z, uint32_t *position, uint32_t *kept, uint32_t *tombstones);
 uint8_t plain_lookup(const uint8_t *pool, uint64_t pool_length, uint32_t key, uint64_t *payload, uint32_t *position);
 uint8_t plain_meld(uint8_t *pool, uint64_t pool_length, const uint8_t *record, uint64_t record_length, uint32_t *looks);
 uint8_t plain_refresh(const uint8_t *pool, uint64_t pool_length, const uint8_t *original, uint64_t original_length, uint8_t *output,

@@ -3,8 +3,8 @@
    The same for all of them:
    - A list or a buffer is lent as a pointer and the number of its elements. Bytes may stand at any address; numbers stand where their type may.
    - Lengths, places and sizes are 64-bit numbers on every processor, also on one whose size_t has 32 bits.
-   - No pointer may be NULL, also where the number of elements is 0. What is lent to be written (no const) may overlap nothing else that is
-     lent to the same call.
+   - A pointer lent with a number of elements may be NULL where that number is 0: nothing is read or written through it then. A pointer to a single
+     number may not. What is lent to be written (no const) may overlap nothing else that is lent to the same call.
    - Nothing else is asked: any bytes may be lent anywhere. A function reads and writes only what it is lent, keeps nothing between two calls,
      takes no memory, and ends. Each one says what every lent byte is afterwards.
    - Two calls at the same time are fine unless they share something that one of them writes. */
@@ -13,6 +13,12 @@
 
 #include <stdbool.h>
 #include <stdint.h>
+
+/* The version of this header and of the archive that belongs to it (CHANGELOG.md). */
+#define EMUPARASOL_VERSION_MAJOR 0
+#define EMUPARASOL_VERSION_MINOR 1
+#define EMUPARASOL_VERSION_PATCH 0
+#define EMUPARASOL_VERSION "0.1.0"
 
 #ifdef __cplusplus
 extern "C" {
@@ -33,6 +39,24 @@ enum emuparasol_answer {
     EMUPARASOL_BROKEN_LOG = 10        /* the log does not go on with a whole record */
 };
 
+/* The name of an answer, as the rules have it (R3); "unknown answer" for any other number. Plain C, no part of the archive. */
+static inline const char *emuparasol_answer_name(uint8_t answer) {
+    static const char *const names[] = {
+        "committed",
+        "conflict",
+        "too old",
+        "no room",
+        "malformed",
+        "ahead",
+        "positions used up",
+        "unfit pool",
+        "output short",
+        "bad limits",
+        "broken log"
+    };
+    return answer < sizeof names / sizeof *names ? names[answer] : "unknown answer";
+}
+
 /* The kinds of a point. */
 enum emuparasol_kind {
     EMUPARASOL_KIND_READ = 1,
@@ -52,6 +76,11 @@ enum emuparasol_kind {
    Answers 0: every byte of the pool is fixed by n and z. Answers 9 if n or z is outside its range or pool_length is not 64 + 64 n: the bytes are
    as before. */
 uint8_t emuparasol_create(uint8_t *pool, uint64_t pool_length, uint32_t n, uint32_t z);
+
+/* What the pool says of itself. Answers 0: *n and *z are its limits, *position is the position of the last record that was melded (the snapshot of a
+   transaction that begins now), *kept is how many keys it keeps, and *tombstones how many of these are deleted. Answers 7 for an unfit pool, with all
+   five 0. */
+uint8_t emuparasol_status(const uint8_t *pool, uint64_t pool_length, uint32_t *n, uint32_t *z, uint32_t *position, uint32_t *kept, uint32_t *tombstones);
 
 /* What the pool keeps under a key. Answers 0: *position is the position of the last committed write, 1 or more, and *payload what it put there; or
    both are 0, and the key is absent (never written, or deleted). Answers 7 for an unfit pool, with both 0. */

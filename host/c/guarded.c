@@ -1,7 +1,7 @@
 /* The library's compiled code against plain C (bench/plain.c), call by call, in memory where nothing can be touched unseen:
      guarded [SECONDS [SEED]]
    What is lent stands at the very end or the very start of a mapped area, with unmapped pages around it; what is lent to be read is lent through a
-   mapping that cannot be written. Pools and records are made at random, whole and damaged, and all nine functions are called. After each call the
+   mapping that cannot be written; what has no elements is often lent as NULL. Pools and records are made at random, whole and damaged, and all ten functions are called. After each call the
    answer, every number and every byte of every area must be what plain C leaves. At the first difference, and at an access that is not allowed, the
    seed and the call are printed and the status is 1. The same seed makes the same calls. */
 #define _DEFAULT_SOURCE
@@ -86,8 +86,8 @@ static void place(struct area *a, const void *from, size_t bytes) {
     a->at = one_in(4) ? 0 : a->size - bytes;
     memcpy(a->writable + a->at, from, bytes);
 }
-static uint8_t *lent(struct area *a) { return a->writable + a->at; }
-static const uint8_t *shown(struct area *a) { return a->readable + a->at; }
+static uint8_t *lent(struct area *a) { return a->bytes == 0 && one_in(2) ? NULL : a->writable + a->at; }
+static const uint8_t *shown(struct area *a) { return a->bytes == 0 && one_in(2) ? NULL : a->readable + a->at; }
 
 /* The lent part has these bytes, and what is around it is as it was. */
 static void same(struct area *a, const void *bytes, const char *what) {
@@ -102,7 +102,7 @@ static void same(struct area *a, const void *bytes, const char *what) {
             fail("a byte behind what was lent was written");
 }
 
-static struct area pool_area, record_area, output_area, kinds_area, keys_area, payloads_area, lows_area, highs_area, number_areas[3];
+static struct area pool_area, record_area, output_area, kinds_area, keys_area, payloads_area, lows_area, highs_area, number_areas[5];
 
 /* A number lent to be written; what it is before must not matter. */
 static void *number(int which, size_t bytes) {
@@ -230,6 +230,19 @@ static void try_create(uint32_t n, uint32_t z, uint64_t length) {
     place(&pool_area, pool, length);
     answered(emuparasol_create(lent(&pool_area), length, n, z), plain_create(pool, length, n, z));
     same(&pool_area, pool, "the pools differ");
+}
+
+static void try_status(uint8_t *bytes, uint64_t length) {
+    uint32_t plain[5], *to[5];
+    doing = "status";
+    place(&pool_area, bytes, length);
+    for (int i = 0; i < 5; i++)
+        to[i] = number(i, 4);
+    uint8_t answer = emuparasol_status(shown(&pool_area), length, to[0], to[1], to[2], to[3], to[4]);
+    answered(answer, plain_status(bytes, length, &plain[0], &plain[1], &plain[2], &plain[3], &plain[4]));
+    for (int i = 0; i < 5; i++)
+        told(i, &plain[i], "the numbers differ");
+    same(&pool_area, bytes, "the pool was written");
 }
 
 static void try_lookup(uint8_t *bytes, uint64_t length) {
@@ -361,6 +374,29 @@ static void try_record(void) {
     same(&keys_area, lists.keys, "the keys were written");
 }
 
+/* NULL for everything that is lent with a number of elements. */
+static void expected(uint8_t answer, uint8_t right) {
+    if (answer != right)
+        fail("another answer where nothing was lent");
+    answered(answer, right);
+}
+static void try_nothing(void) {
+    uint64_t a = 1, b = 1, c = 1;
+    uint32_t p = 1, q = 1, r = 1, s = 1, t = 1;
+    doing = "nothing lent";
+    expected(emuparasol_create(NULL, 0, 1, 1), EMUPARASOL_BAD_LIMITS);
+    expected(emuparasol_status(NULL, 0, &p, &q, &r, &s, &t), EMUPARASOL_UNFIT_POOL);
+    expected(emuparasol_lookup(NULL, 0, key(), &a, &p), EMUPARASOL_UNFIT_POOL);
+    expected(emuparasol_meld(NULL, 0, NULL, 0, &p), EMUPARASOL_UNFIT_POOL);
+    expected(emuparasol_refresh(NULL, 0, NULL, 0, NULL, 0), EMUPARASOL_UNFIT_POOL);
+    expected(emuparasol_in_force((uint8_t)below(12), NULL, 0, NULL, 0, &a, &b), false);
+    expected(emuparasol_check(NULL, 0), EMUPARASOL_MALFORMED);
+    expected(emuparasol_read(NULL, 0, NULL, 0, NULL, 0, NULL, 0, NULL, 0, NULL, 0, &p, &a, &b), EMUPARASOL_MALFORMED);
+    expected(emuparasol_write(any(), NULL, 0, NULL, 0, NULL, 0, NULL, 0, NULL, 0, NULL, 0, &c), EMUPARASOL_OUTPUT_SHORT);
+    expected(emuparasol_cut(NULL, 0, 0, &a), EMUPARASOL_COMMITTED);
+    expected(emuparasol_cut(NULL, 0, 1 + any(), &b), EMUPARASOL_BROKEN_LOG);
+}
+
 /* A pool from its creation through some records, with everything else tried along the way. */
 static void episode(void) {
     static uint8_t copy[POOL_ROOM];
@@ -370,11 +406,16 @@ static void episode(void) {
         uint32_t odd[] = {0, n, n + 1, 65537, any()};
         try_create(odd[below(5)], one_in(2) ? z : odd[below(5)], below(8 * 64));
     }
+    if (one_in(8))
+        try_nothing();
     pool_length = EMUPARASOL_POOL_BYTES(n);
     try_create(n, z, pool_length);
     for (int round = 0; round < 60; round++) {
         switch (below(8)) {
-        case 0: try_lookup(pool, pool_length); break;
+        case 0:
+            try_lookup(pool, pool_length);
+            try_status(pool, pool_length);
+            break;
         case 1: try_refresh(pool, pool_length); break;
         case 2: try_record(); break;
         case 3:
@@ -383,6 +424,8 @@ static void episode(void) {
             uint64_t length = damage(copy, pool_length);
             if (one_in(2))
                 try_lookup(copy, length);
+            if (one_in(2))
+                try_status(copy, length);
             if (one_in(2))
                 try_refresh(copy, length);
             try_meld(copy, length);
@@ -413,7 +456,7 @@ int main(int argc, char **argv) {
     payloads_area = area_of(8 * LIST);
     lows_area = area_of(4 * PAIRS);
     highs_area = area_of(4 * PAIRS);
-    for (int i = 0; i < 3; i++)
+    for (int i = 0; i < 5; i++)
         number_areas[i] = area_of(8);
     do
         for (int i = 0; i < 100; i++)

@@ -14,16 +14,32 @@ use Rattle.create.specs.Fresh.{Created}
 use Rattle.create.proofs.Only as Create
 use Rattle.refresh.specs.Refreshed.{RefreshIs}
 use Rattle.refresh.proofs.Only.{refresh-only}
+use Rattle.meld.specs.declared.kept.Status.{Status}
 use Rattle.meld.specs.declared.melding.Melded.{Melded}
 use Rattle.meld.specs.Melds.{Melds}
+use Rattle.meld.specs.Statuses.{StatusIs}
 use Rattle.meld.proofs.Only as Meld
 use Rattle.abi.specs.declared.numbers.LookupNumbers.{LookupNumbers}
-use Rattle.abi.specs.Numbers.{melded, lookedUp}
+use Rattle.abi.specs.Numbers.{melded, lookedUp, statusFrom}
 use Rattle.abi.specs.Told.{LooksUpAs, InForceAs}
 
 -- `emuparasol_create`: one number, and one content of the pool
 pub only-create : (m : List ℕ) (n z r q : ℕ) (m′ m″ : List ℕ) → Created m n z (answer r) m′ → Created m n z (answer q) m″ → (r ≡ q) × (m′ ≡ m″)
 only-create m n z r q m′ m″ a b = let x = Create.only m n z (answer r) (answer q) m′ m″ a b in (ap (λ (y : Answer). y .number) (x .0), x .1)
+
+-- `emuparasol_status`: one number and five others, for any bytes lent as pool
+pub only-status : (m : List ℕ) (n N Z p kept tombstones n′ N′ Z′ p′ kept′ tombstones′ : ℕ) → Bytes m
+    → StatusIs m (statusFrom n N Z p kept tombstones) → StatusIs m (statusFrom n′ N′ Z′ p′ kept′ tombstones′)
+    → (n ≡ n′) × (N ≡ N′) × (Z ≡ Z′) × (p ≡ p′) × (kept ≡ kept′) × (tombstones ≡ tombstones′)
+only-status m n N Z p kept tombstones n′ N′ Z′ p′ kept′ tombstones′ lent a b =
+    let e = Meld.only-status m (statusFrom n N Z p kept tombstones) (statusFrom n′ N′ Z′ p′ kept′ tombstones′) lent a b in (
+      ap (λ (s : Status). s .answer .number) e,
+      ap (λ (s : Status). s .limit) e,
+      ap (λ (s : Status). s .zone) e,
+      ap (λ (s : Status). s .position) e,
+      ap (λ (s : Status). s .kept) e,
+      ap (λ (s : Status). s .tombstones) e,
+    )
 
 -- `emuparasol_lookup`: one number, payload and position, for any bytes lent as pool
 pub only-lookup : (m : List ℕ) (k n x w n′ x′ w′ : ℕ) → Bytes m → LooksUpAs m k (lookedUp n x w) → LooksUpAs m k (lookedUp n′ x′ w′)

@@ -4,6 +4,7 @@ use Prim.Native.Nat.{ℕ}
 use Rattle.words.specs.Choice.{valueOr}
 use Rattle.record_abi.specs.Numbers.{answer, numberIn}
 use Rattle.meld.specs.declared.kept.Lookup.{Lookup}
+use Rattle.meld.specs.declared.kept.Status.{Status}
 use Rattle.meld.specs.declared.melding.Melded.{Melded}
 use Rattle.meld.specs.Lookups.{LookupTold, lookupTold}
 use Rattle.abi.specs.declared.numbers.LookupNumbers.{LookupNumbers}
@@ -11,6 +12,10 @@ use Rattle.abi.specs.declared.numbers.LookupNumbers.{LookupNumbers}
 -- what meld gives back, from the number and the looks
 abbrev pub melded : ℕ → ℕ → Melded
 melded n looks = record { answer = answer n; looks = looks }
+
+-- what status gives back, from the number and the five others
+abbrev pub statusFrom : ℕ → ℕ → ℕ → ℕ → ℕ → ℕ → Status
+statusFrom n N Z p kept tombstones = record { answer = answer n; limit = N; zone = Z; position = p; kept = kept; tombstones = tombstones }
 
 -- the three numbers of a lookup
 abbrev pub lookedUp : ℕ → ℕ → ℕ → LookupNumbers

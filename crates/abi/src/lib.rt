@@ -8,6 +8,7 @@ use meld::in_force;
 use meld::lookup;
 use meld::meld;
 use meld::refresh;
+use meld::status;
 use numbers::of_lookup;
 use record::Answer;
 use record::check;
@@ -21,7 +22,8 @@ ghost use Rattle.record_abi.specs.Told.{ChecksAs, CutsAs};
 ghost use Rattle.create.specs.Fresh.{Created};
 ghost use Rattle.refresh.specs.Refreshed.{RefreshIs};
 ghost use Rattle.meld.specs.Melds.{Melds};
-ghost use Rattle.abi.specs.Numbers.{melded, lookedUp};
+ghost use Rattle.meld.specs.Statuses.{StatusIs};
+ghost use Rattle.abi.specs.Numbers.{melded, lookedUp, statusFrom};
 ghost use Rattle.abi.specs.Told.{LooksUpAs, InForceAs};
 
 // Creates a pool with limits n and z in the bytes lent: 0, or 9 and no byte changes.
@@ -30,6 +32,30 @@ pub extern "C" fn emuparasol_create(pool: &mut [u8], n: u32, z: u32) -> u8
     ensures { λ r. ⌜ Created (now (pool .entry)) n z (answer r) (now (pool .exit)) ⌝ }
 {
     let answer = create(pool, n, z);
+    answer.number
+}
+
+// What a pool says of itself: 7 for an unfit pool, else 0; its limits, its position, how many keys it keeps and how many of these are tombstones,
+// all five 0 with 7.
+#[no_mangle]
+pub extern "C" fn emuparasol_status(
+    pool: &[u8],
+    n: &mut u32,
+    z: &mut u32,
+    position: &mut u32,
+    kept: &mut u32,
+    tombstones: &mut u32,
+) -> u8
+    ensures { λ r. ⌜ StatusIs (now (pool .entry))
+        (statusFrom r (now (n .exit)) (now (z .exit)) (now (position .exit)) (now (kept .exit)) (now (tombstones .exit))) ⌝ }
+{
+    let status = status(pool);
+    *n = status.limit;
+    *z = status.zone;
+    *position = status.position;
+    *kept = status.kept;
+    *tombstones = status.tombstones;
+    let answer = status.answer;
     answer.number
 }
 

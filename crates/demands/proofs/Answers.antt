@@ -32,10 +32,12 @@ use Rattle.fit.proofs.Promises as Fitness
 use Rattle.create.specs.Fresh.{Created}
 use Rattle.create.proofs.Only as Creation
 use Rattle.meld.specs.declared.kept.Lookup.{Lookup}
+use Rattle.meld.specs.declared.kept.Status.{Status}
 use Rattle.meld.specs.declared.melding.Melded.{Melded}
 use Rattle.meld.specs.Lookups.{LooksUp}
+use Rattle.meld.specs.Statuses.{StatusIs}
 use Rattle.meld.specs.Melds.{Melds}
-use Rattle.meld.proofs.Only.{only-meld, only-lookup}
+use Rattle.meld.proofs.Only.{only-meld, only-lookup, only-status}
 use Rattle.refresh.specs.Refreshed.{RefreshIs}
 use Rattle.refresh.proofs.Only.{refresh-only}
 use Rattle.in_force.specs.InForce.{InForce}
@@ -104,6 +106,10 @@ create-one m n z x y p q = let e = Creation.only m n z (x .0) (y .0) (x .1) (y .
 
 pub lookup-one : (m : List ℕ) (k : ℕ) → Bytes m → OneAnswer (λ (x : Lookup). LooksUp m k x)
 lookup-one m k b x y p q = only-lookup m k x y b p q
+
+-- the answer and all five numbers
+pub status-one : (m : List ℕ) → Bytes m → OneAnswer (λ (x : Status). StatusIs m x)
+status-one m b x y p q = only-status m x y b p q
 
 -- answer, looks and the whole pool
 pub meld-one : (m bytes : List ℕ) → Bytes m → OneAnswer (λ (x : Melded × List ℕ). Melds m bytes (x .1) (x .0))

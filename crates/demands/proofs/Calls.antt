@@ -28,6 +28,7 @@ create-stays-fit m n z a m′ c f = go (limitsOk n z (length m)) refl
 pub call-stays-fit : {m m′ : List ℕ} → Call m m′ → Fit m → Fit m′
 call-stays-fit {m} {m′} (Call.create n z a c) f = create-stays-fit m n z a m′ c f
 call-stays-fit (Call.fit r d) f = f
+call-stays-fit (Call.status x s) f = f
 call-stays-fit (Call.lookup k x l) f = f
 call-stays-fit (Call.meld bytes x b h) f = record { arrangement = afterIn (f .arrangement) (parse bytes); image = h .fit (f .arrangement) (f .image) .leaves }
 call-stays-fit (Call.refresh original before after a b c h) f = f

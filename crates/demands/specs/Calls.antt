@@ -9,16 +9,19 @@ use Rattle.pool.specs.Image.{Fit}
 use Rattle.fit.specs.Whole.{Decides}
 use Rattle.create.specs.Fresh.{Created}
 use Rattle.meld.specs.declared.kept.Lookup.{Lookup}
+use Rattle.meld.specs.declared.kept.Status.{Status}
 use Rattle.meld.specs.declared.melding.Melded.{Melded}
 use Rattle.meld.specs.Lookups.{LooksUp}
+use Rattle.meld.specs.Statuses.{StatusIs}
 use Rattle.meld.specs.Melds.{Melds}
 use Rattle.refresh.specs.Refreshed.{RefreshIs}
 
 -- R20: one call that bytes are lent to as a pool, with anything else lent beside them: the bytes before and after it. It answers whatever
--- its promise allows. `fit`, `lookup` and `refresh` are lent the pool by `&`, so it stays as it is.
+-- its promise allows. `fit`, `status`, `lookup` and `refresh` are lent the pool by `&`, so it stays as it is.
 pub data Call : List ℕ → List ℕ → Type 0 where
   create : {m m′ : List ℕ} (n z : ℕ) (a : Answer) → Created m n z a m′ → Call m m′
   fit : {m : List ℕ} (r : Bool) → Decides (Fit m) r → Call m m
+  status : {m : List ℕ} (x : Status) → StatusIs m x → Call m m
   lookup : {m : List ℕ} (k : ℕ) (x : Lookup) → LooksUp m k x → Call m m
   meld : {m m′ : List ℕ} (bytes : List ℕ) (x : Melded) → Bytes bytes → Melds m bytes m′ x → Call m m′
   refresh : {m : List ℕ} (original before after : List ℕ) (a : Answer) → Bytes original → Bytes before → RefreshIs m original before a after → Call m m

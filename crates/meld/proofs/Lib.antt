@@ -2,6 +2,7 @@ pub mod AfterState
 mod Judging
 mod Verdicts
 pub mod Lookups
+mod Statuses
 mod Readings
 mod Whole
 pub mod Only

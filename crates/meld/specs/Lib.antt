@@ -1,4 +1,5 @@
 pub mod Lookups
+pub mod Statuses
 pub mod After
 pub mod Melds
 pub mod Lists

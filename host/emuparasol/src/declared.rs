@@ -4,6 +4,15 @@
 
 extern "C" {
     pub fn emuparasol_create(pool: *mut u8, pool_length: u64, n: u32, z: u32) -> u8;
+    pub fn emuparasol_status(
+        pool: *const u8,
+        pool_length: u64,
+        n: *mut u32,
+        z: *mut u32,
+        position: *mut u32,
+        kept: *mut u32,
+        tombstones: *mut u32,
+    ) -> u8;
     pub fn emuparasol_lookup(
         pool: *const u8,
         pool_length: u64,

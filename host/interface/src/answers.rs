@@ -33,6 +33,29 @@ pub fn of_c(text: &str) -> Result<Vec<Answer>, String> {
     })
 }
 
+/// The names that the header's `emuparasol_answer_name` gives to the numbers, in the
+/// form of the constants.
+pub fn of_c_names(text: &str) -> Result<Vec<Answer>, String> {
+    let block = between(text, "emuparasol_answer_name(uint8_t answer) {", "\n}\n")
+        .ok_or("no emuparasol_answer_name")?;
+    let list = between(block, "names[] = {", "}").ok_or("no list of names")?;
+    list.split(',')
+        .zip(0u8..)
+        .map(|(item, number)| {
+            let name = item.trim().strip_prefix('"').ok_or(item)?;
+            let name = name.strip_suffix('"').ok_or(item)?;
+            let constant = |c: char| c == ' ' || c.is_ascii_lowercase();
+            if name.is_empty() || !name.chars().all(constant) {
+                return Err(format!("a name that is not in small letters: {item}"));
+            }
+            Ok(Answer {
+                name: name.to_ascii_uppercase().replace(' ', "_"),
+                number,
+            })
+        })
+        .collect()
+}
+
 /// The cases of Rust's enum of verdicts, their words in capitals.
 pub fn of_rust_verdicts(text: &str) -> Result<Vec<Answer>, String> {
     let text = without_comments(text);

@@ -46,10 +46,16 @@ pub fn of_rust(text: &str) -> Result<Vec<Function>, String> {
         .collect()
 }
 
-/// The functions that a C header declares.
+/// The functions that a C header declares; those that it defines itself, from a line
+/// that begins with `static inline` to one that is `}`, are no part of the library.
 pub fn of_c(text: &str) -> Result<Vec<Function>, String> {
     let mut functions = Vec::new();
-    let lines: Vec<String> = without_comments(text)
+    let mut declared = without_comments(text);
+    while let Some(from) = declared.find("\nstatic inline ") {
+        let end = declared[from..].find("\n}\n").ok_or("an open function")?;
+        declared.replace_range(from..from + end + 3, "");
+    }
+    let lines: Vec<String> = declared
         .lines()
         .filter(|line| !line.trim_start().starts_with('#'))
         .map(str::to_string)

@@ -3,7 +3,7 @@
 use std::fs;
 use std::path::Path;
 
-use crate::{answers, compare_answers, compare_functions, functions};
+use crate::{answers, compare_answers, compare_functions, functions, versions};
 
 /// The texts that have to agree.
 #[derive(Clone, Debug)]
@@ -20,6 +20,8 @@ pub struct Sources {
     pub rattle_answers: String,
     /// `host/emuparasol/src/answer.rs`.
     pub rust_answers: String,
+    /// `host/Cargo.toml`, which has the version.
+    pub cargo: String,
 }
 
 impl Sources {
@@ -35,6 +37,7 @@ impl Sources {
             declared: text("host/emuparasol/src/declared.rs")?,
             rattle_answers: text("crates/record/src/answer.rt")?,
             rust_answers: text("host/emuparasol/src/answer.rs")?,
+            cargo: text("host/Cargo.toml")?,
         })
     }
 
@@ -46,6 +49,7 @@ impl Sources {
         let declared = functions::of_rust(&self.declared)?;
         let answers = answers::of_rattle(&self.rattle_answers)?;
         let header_answers = answers::of_c(&self.header)?;
+        let header_names = answers::of_c_names(&self.header)?;
         let verdicts = answers::of_rust_verdicts(&self.rust_answers)?;
         let errors = answers::of_rust_errors(&self.rust_answers)?;
         let proved = "the proved source";
@@ -74,6 +78,13 @@ impl Sources {
             "the header",
             &header_answers,
         ));
+        found.extend(compare_answers(
+            proved,
+            &answers,
+            "emuparasol_answer_name",
+            &header_names,
+        ));
+        found.extend(versions::compare(&self.header, &self.cargo)?);
         // 0 to 5 are verdicts, and all but 0 are errors.
         for (theirs, range, cases) in [
             ("the Rust verdicts", 0..=5, verdicts),

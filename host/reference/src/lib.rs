@@ -26,4 +26,4 @@ pub use answer::Answer;
 pub use flaw::Flaw;
 pub use log::{LogReader, Step};
 pub use record::{Kind, Point, Record, Scan};
-pub use state::{Limits, State, Verdict};
+pub use state::{Limits, State, Status, Verdict};

@@ -61,6 +61,19 @@ pub struct Verdict {
     pub looks: u32,
 }
 
+/// What a state says of itself (R45).
+#[derive(Clone, Copy, Debug, PartialEq, Eq)]
+pub struct Status {
+    /// N and Z.
+    pub limits: Limits,
+    /// The position p.
+    pub position: u32,
+    /// How many keys are kept, tombstones included.
+    pub kept: u32,
+    /// How many of them are tombstones.
+    pub tombstones: u32,
+}
+
 /// The state at a position, with every committed write that led to it.
 #[derive(Clone, Debug, PartialEq, Eq)]
 pub struct State {
@@ -111,6 +124,17 @@ impl State {
     /// The position p.
     pub fn position(&self) -> u32 {
         self.position
+    }
+
+    /// What the state says of itself.
+    pub fn status(&self) -> Status {
+        let deleted = |kept: &&Kept| kept.payload.is_none();
+        Status {
+            limits: self.limits,
+            position: self.position,
+            kept: self.kept.len() as u32,
+            tombstones: self.kept.values().filter(deleted).count() as u32,
+        }
     }
 
     /// The kept keys.
