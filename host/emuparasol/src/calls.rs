@@ -14,6 +14,29 @@ pub fn create(pool: &mut [u8], n: u32, z: u32) -> u8 {
     unsafe { emuparasol_create(pool.as_mut_ptr(), pool.len() as u64, n, z) }
 }
 
+/// See `emuparasol_status`.
+pub fn status(
+    pool: &[u8],
+    n: &mut u32,
+    z: &mut u32,
+    position: &mut u32,
+    kept: &mut u32,
+    tombstones: &mut u32,
+) -> u8 {
+    // SAFETY: slices and references, as the head of this file says.
+    unsafe {
+        emuparasol_status(
+            pool.as_ptr(),
+            pool.len() as u64,
+            n,
+            z,
+            position,
+            kept,
+            tombstones,
+        )
+    }
+}
+
 /// See `emuparasol_lookup`.
 pub fn lookup(pool: &[u8], key: u32, payload: &mut u64, position: &mut u32) -> u8 {
     // SAFETY: slices and references, as the head of this file says.

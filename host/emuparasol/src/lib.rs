@@ -23,7 +23,7 @@ mod record;
 
 pub use answer::{Error, Verdict};
 pub use log::{BrokenLog, Records};
-pub use pool::{in_force, pool_bytes, Found, Limits, Melded, Pool};
+pub use pool::{in_force, pool_bytes, Found, Limits, Melded, Pool, Status};
 pub use record::{
     check, Point, Record, RecordBuffer, Scan, LEAST_RECORD, MOST_POINTS, MOST_RECORD, MOST_SCANS,
 };

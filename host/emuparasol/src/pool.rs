@@ -81,6 +81,47 @@ impl<B: AsRef<[u8]>> Pool<B> {
         self.bytes.as_ref()
     }
 
+    /// What the pool says of itself (R45). A transaction takes its snapshot from it,
+    /// the position, before its first read.
+    ///
+    /// # Errors
+    /// [`Error::UnfitPool`].
+    ///
+    /// ```
+    /// use emuparasol::{pool_bytes, Error, Limits, Point, Pool, Record};
+    ///
+    /// let mut pool = Pool::create([0; pool_bytes(3)], Limits { n: 3, z: 4 })?;
+    /// let snapshot = pool.status()?.position;
+    /// let points = &[Point::put(10, 100), Point::delete(20)];
+    /// let record = Record { snapshot, points, scans: &[] };
+    /// let mut output = [0; 30];
+    /// pool.meld(record.write(&mut output)?)?.verdict.committed()?;
+    ///
+    /// let status = pool.status()?;
+    /// assert_eq!(status.limits, Limits { n: 3, z: 4 });
+    /// assert_eq!(status.position, 1);
+    /// assert_eq!((status.kept, status.tombstones), (2, 1));
+    /// # Ok::<(), Error>(())
+    /// ```
+    pub fn status(&self) -> Result<Status, Error> {
+        let (mut n, mut z) = (0, 0);
+        let (mut position, mut kept, mut tombstones) = (0, 0, 0);
+        done(calls::status(
+            self.as_bytes(),
+            &mut n,
+            &mut z,
+            &mut position,
+            &mut kept,
+            &mut tombstones,
+        ))?;
+        Ok(Status {
+            limits: Limits { n, z },
+            position,
+            kept,
+            tombstones,
+        })
+    }
+
     /// What the pool keeps under a key; none if it was never written, or deleted.
     ///
     /// # Errors
@@ -179,6 +220,20 @@ impl<B: AsRef<[u8]>> fmt::Debug for Pool<B> {
         let length = self.as_bytes().len();
         out.debug_struct("Pool").field("length", &length).finish()
     }
+}
+
+/// What a pool says of itself.
+#[derive(Clone, Copy, Debug, PartialEq, Eq, Hash)]
+#[non_exhaustive]
+pub struct Status {
+    /// N and Z.
+    pub limits: Limits,
+    /// The position of the last record that was melded; 0 before the first.
+    pub position: u32,
+    /// How many keys are kept, those with a tombstone included.
+    pub kept: u32,
+    /// How many of them have a tombstone: they were deleted.
+    pub tombstones: u32,
 }
 
 /// What a pool keeps under a key: the last committed write.

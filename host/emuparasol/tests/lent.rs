@@ -102,6 +102,7 @@ fn n_and_z_are_not_exchanged() {
         let pool = Pool::create(vec![0; size], limits).expect("good limits");
         let good = reference::Limits::new(n, z).expect("good limits");
         means(pool.as_bytes(), &State::new(good));
+        assert_eq!(pool.status().expect("fit").limits, limits);
     }
     let refused = Pool::create(vec![0; pool_bytes(7)], Limits { n: 1, z: 7 });
     assert_eq!(refused.err(), Some(Error::BadLimits));
@@ -133,6 +134,7 @@ fn a_pool_of_a_wrong_size_is_refused_and_left_alone() {
         let mut pool = Pool::from_bytes(&mut bytes[..]);
         assert_eq!(pool.recreate(LIMITS), Err(Error::BadLimits));
         let record = &some_records()[0];
+        assert_eq!(pool.status(), Err(Error::UnfitPool));
         assert_eq!(pool.lookup(10), Err(Error::UnfitPool));
         assert_eq!(pool.meld(record), Err(Error::UnfitPool));
         let mut output = [0xC3; 60];
@@ -147,10 +149,7 @@ fn a_pool_of_a_wrong_size_is_refused_and_left_alone() {
 #[test]
 fn verdicts_take_a_position_and_errors_do_not() {
     let mut pool = Pool::create([0; SIZE], LIMITS).expect("good limits");
-    let position = |pool: &Pool<[u8; SIZE]>| {
-        let state = reference::layout::state_of(pool.as_bytes()).expect("fit");
-        state.position()
-    };
+    let position = |pool: &Pool<[u8; SIZE]>| pool.status().expect("fit").position;
     let puts: Vec<Point> = (1..=4).map(|key| Point::put(key, 1)).collect();
     let rows = [
         (record(0, &puts[..3]), Verdict::Committed, 0),
@@ -222,6 +221,7 @@ fn fickle_bytes_are_answered() {
     let mut said = [0; 11];
     for turn in 0..60 {
         let number = match turn % 5 {
+            0 if turn % 2 == 0 => common::number(&pool.status()),
             0 => common::number(&pool.lookup(10)),
             1 => match pool.meld(&records[turn % 3]) {
                 Ok(melded) => melded.verdict.number(),

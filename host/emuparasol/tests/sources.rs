@@ -102,7 +102,7 @@ fn what_panics_is_found() {
 #[test]
 fn nothing_panics() {
     let sources = sources();
-    assert_eq!(sources.len(), 6);
+    assert!(sources.len() > 5);
     for (name, code) in sources {
         assert_eq!(panics(&code), None, "{name}");
     }

@@ -106,6 +106,20 @@ pub fn create(pool: &mut Vec<u8>, n: u32, z: u32) -> u8 {
     answer
 }
 
+/// `status`: the answer, N, Z, the position, the kept keys and the tombstones.
+pub fn status(pool: &[u8]) -> (u8, [u32; 5]) {
+    let mut lent = bytes(pool);
+    let said = Pool::from_bytes(lent.lent()).status();
+    lent.same(pool);
+    let told = said.map(|it| {
+        let emuparasol::Limits { n, z } = it.limits;
+        [n, z, it.position, it.kept, it.tombstones]
+    });
+    let told = (number(&said), told.unwrap_or_default());
+    assert_eq!(raw::status(pool), told);
+    told
+}
+
 /// `lookup`: the answer, the payload and the position.
 pub fn lookup(pool: &[u8], key: u32) -> (u8, u64, u32) {
     let mut lent = bytes(pool);
@@ -286,6 +300,10 @@ pub fn means(pool: &[u8], state: &State) {
     assert_eq!(meant.limits(), state.limits());
     assert_eq!(meant.position(), state.position());
     assert_eq!(meant.kept(), state.kept());
+    let told = state.status();
+    let (n, z) = (told.limits.n(), told.limits.z());
+    let numbers = [n, z, told.position, told.kept, told.tombstones];
+    assert_eq!(status(pool), (0, numbers));
 }
 
 /// Melds one record into the pool and into the state, and compares answer, looks

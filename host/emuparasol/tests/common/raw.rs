@@ -11,6 +11,16 @@ pub fn create(pool: &mut Vec<u8>, n: u32, z: u32) -> u8 {
     answer
 }
 
+/// `status`: the answer, N, Z, the position, the kept keys and the tombstones.
+pub fn status(pool: &[u8]) -> (u8, [u32; 5]) {
+    let mut lent = bytes(pool);
+    let mut numbers = [81, 82, 83, 84, 85].map(|before| words(&[before]));
+    let [n, z, position, kept, tombstones] = numbers.each_mut().map(|it| &mut it.lent()[0]);
+    let answer = calls::status(lent.lent(), n, z, position, kept, tombstones);
+    lent.same(pool);
+    (answer, numbers.map(|number| number.number()))
+}
+
 /// `lookup`: the answer, the payload and the position.
 pub fn lookup(pool: &[u8], key: u32) -> (u8, u64, u32) {
     let (mut lent, mut payload, mut position) = (bytes(pool), longs(&[77]), words(&[78]));
