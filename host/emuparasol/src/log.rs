@@ -29,7 +29,8 @@ use crate::calls;
 pub struct Records<'a> {
     log: &'a [u8],
     place: usize,
-    over: bool,
+    /// Was the broken place told?
+    told: bool,
 }
 
 impl<'a> Records<'a> {
@@ -41,8 +42,8 @@ impl<'a> Records<'a> {
     /// The records from a place on, where an earlier walk has come to; a place past
     /// the end is broken.
     pub const fn at(log: &'a [u8], place: usize) -> Records<'a> {
-        let over = false;
-        Records { log, place, over }
+        let told = false;
+        Records { log, place, told }
     }
 
     /// The place behind the last record given: where the next one begins, where the
@@ -56,7 +57,7 @@ impl<'a> Iterator for Records<'a> {
     type Item = Result<&'a [u8], BrokenLog>;
 
     fn next(&mut self) -> Option<Self::Item> {
-        if self.over {
+        if self.told {
             return None;
         }
         let place = self.place;
@@ -65,16 +66,13 @@ impl<'a> Iterator for Records<'a> {
         let next = usize::try_from(next).ok();
         let part = next.and_then(|next| self.log.get(place..next));
         match (answer, part) {
-            (0, Some([])) => {
-                self.over = true;
-                None
-            }
+            (0, Some([])) => None,
             (0, Some(record)) => {
                 self.place = place.saturating_add(record.len());
                 Some(Ok(record))
             }
             _ => {
-                self.over = true;
+                self.told = true;
                 Some(Err(BrokenLog { place }))
             }
         }

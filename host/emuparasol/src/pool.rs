@@ -33,7 +33,8 @@ pub const fn pool_bytes(n: u32) -> usize {
 }
 
 /// A pool in bytes of any kind that can be lent as a slice: `[u8; SIZE]`,
-/// `&'static mut [u8]`, a box on a host.
+/// `&'static mut [u8]`, a box on a host. Over `&[u8]` it can be asked, but not
+/// changed.
 ///
 /// The bytes may have been anything before. A pool that was made by
 /// [`create`](Pool::create) and is not written to by anyone else stays fit, and the

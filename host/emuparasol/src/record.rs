@@ -233,7 +233,7 @@ impl RecordBuffer {
         ))?;
         let kinds = front(&lists.kinds, point_count)?;
         let lows = front(&lists.lows, scan_count)?;
-        *self = RecordBuffer::new();
+        (self.point_count, self.scan_count) = (0, 0);
         let listed = kinds.iter().zip(&lists.keys).zip(&lists.payloads);
         for (point, ((&kind, &key), &payload)) in self.points.iter_mut().zip(listed) {
             *point = Point::of_lists(kind, key, payload).ok_or(Error::Unknown(0))?;

@@ -83,6 +83,13 @@ fn any_bytes_will_do_and_become_the_same() {
     assert_eq!(fixed.recreate(LIMITS), Ok(()));
     assert_eq!(used(&mut fixed), expected);
 
+    // Bytes that are only shown can be asked.
+    let shown = Pool::from_bytes(&expected[..]);
+    assert_eq!(shown.status().map(|it| it.position), Ok(3));
+    assert_eq!(shown.lookup(10), Ok(None));
+    let waited = record(3, &[Point::read(20)]);
+    assert_eq!(shown.refresh(&waited, &mut [0; 14]), Ok(&waited[..]));
+
     // Bytes taken over are the pool that they were.
     let mut taken = Pool::from_bytes(expected.clone());
     assert_eq!(taken.lookup(10), Ok(None));
