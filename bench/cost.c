@@ -5,7 +5,7 @@
      cost comb N KEYS ZONE FILE [COUNT]      a pool with KEYS keys, then 72 numbers, then for each the 32 keys that differ from it in one bit;
                                              with COUNT so many of the 72 deleted then, and two empty records
      cost library|plain CALL N KEYS POINTS FILE [skip|stack|compare]
-   CALL is look (lookup of an absent key) or a meld of POINTS points: kept (puts of kept keys), new (puts of other keys), read (reads of kept keys),
+   CALL is look (lookup of an absent key), status, or a meld of POINTS points: kept (puts of kept keys), new (puts of other keys), read (reads of kept keys),
    old (reads of other keys, with half the position as snapshot), scans (POINTS scans between neighbouring kept keys, the same snapshot), fullest (64
    reads and 8 scans of the 72 numbers, with the position before their combs as snapshot). The others have the position as snapshot. With skip the
    call is left out; with stack the bytes of stack it used are printed; with compare both are called, and their answers, looks and bytes have to be
@@ -147,11 +147,15 @@ static uint64_t prepare(const char *call, uint32_t points, uint8_t *record) {
     return record_of(record, strcmp(call, "old") ? p : p / 2, some, points, reads ? EMUPARASOL_KIND_READ : EMUPARASOL_KIND_PUT, &n, &n, 0);
 }
 
-/* Makes the call; looks and answer on a look are what was found. */
-static uint8_t make_call(bool plain, bool look, const uint8_t *record, uint64_t size, uint32_t *looks) {
+/* Makes the call; instead of looks a lookup gives the position found, and status the tombstones. */
+enum call { LOOK, STATUS, MELD };
+static uint8_t make_call(bool plain, enum call call, const uint8_t *record, uint64_t size, uint32_t *looks) {
     uint64_t payload;
-    if (look)
+    uint32_t limit, zone, position, kept;
+    if (call == LOOK)
         return (plain ? plain_lookup : emuparasol_lookup)(pool, length, key_of(keys + 1), &payload, looks);
+    if (call == STATUS)
+        return (plain ? plain_status : emuparasol_status)(pool, length, &limit, &zone, &position, &kept, looks);
     return (plain ? plain_meld : emuparasol_meld)(pool, length, record, size, looks);
 }
 
@@ -185,26 +189,26 @@ int main(int argc, char **argv) {
         return MISUSED;
     fclose(f);
     uint8_t record[EMUPARASOL_MOST_RECORD];
-    bool look = !strcmp(call, "look");
-    uint64_t size = look ? 0 : prepare(call, third, record);
+    enum call which = !strcmp(call, "look") ? LOOK : !strcmp(call, "status") ? STATUS : MELD;
+    uint64_t size = which == MELD ? prepare(call, third, record) : 0;
     uint32_t looks = 0;
     uint8_t answer = EMUPARASOL_COMMITTED;
     if (!strcmp(more, "stack")) {
         stack(true);
-        answer = make_call(plain, look, record, size, &looks);
+        answer = make_call(plain, which, record, size, &looks);
         printf("%lu\n", (unsigned long)stack(false));
     } else if (*more == '\0' && argc == 7) {
-        answer = make_call(plain, look, record, size, &looks);
+        answer = make_call(plain, which, record, size, &looks);
     } else if (!strcmp(more, "compare")) {
         uint8_t *once = malloc(length);
         uint32_t other_looks = 0;
         memcpy(once, pool, length);
-        answer = make_call(false, look, record, size, &looks);
+        answer = make_call(false, which, record, size, &looks);
         uint8_t *after = pool;
         pool = once;
-        if (make_call(true, look, record, size, &other_looks) != answer || other_looks != looks || memcmp(after, once, length) != 0)
+        if (make_call(true, which, record, size, &other_looks) != answer || other_looks != looks || memcmp(after, once, length) != 0)
             return DIFFERENT;
-        printf("answer %u, looks %u, kept %u\n", answer, look ? 0 : looks, word_at(pool + 16));
+        printf("answer %u, %s %u, kept %u\n", answer, which == STATUS ? "tombstones" : "looks", looks, word_at(pool + 16));
     }
     return answer;
 }

@@ -1,4 +1,4 @@
--- Demand 2 on bytes: which records commit, what a lookup sees, and how many looks there are, on the pool of a card after some records of
+-- Demand 2 on bytes: which records commit, what a lookup sees, what status tells, and how many looks there are, on the pool of a card after some records of
 -- a log. The idea: the pool means the rules' state, and the rules' theorems speak of that.
 -- Assumes nothing.
 use Prim.Native.Nat.{ℕ, _+_, _*_, _≤_}
@@ -7,7 +7,8 @@ use mathlib.Core.Logic.{_↔_}
 use mathlib.Core.Option.{Option, none, some}
 use mathlib.Core.List.{List, map, List·Memᴰ·head as here, List·Memᴰ·tail as there}
 use native.Mathlib.Omega.{arith}
-use lib.ListN.{length, take}
+use lib.ListN.{length, take, length-map}
+use lib.Seq.{length-take-le}
 use Rattle.words.specs.Word.{Bytes}
 use Rattle.record.specs.Answer as Names
 use Rattle.record.specs.declared.answer.Answer.{Answer}
@@ -15,7 +16,7 @@ use Rattle.record.specs.Record.{Rec}
 use Rattle.record.specs.Parse.{parse}
 use Rattle.log.specs.declared.found.Cut.{Cut}
 use Rattle.log.specs.Walk.{Walks}
-use Rattle.rules.specs.State.{State, Lawful, fresh}
+use Rattle.rules.specs.State.{State, Lawful, fresh, lastPosition}
 use Rattle.rules.specs.Verdict.{Verdict, committed, conflict, tooOld, noRoom, malformed, ahead, positionsUsedUp, verdictAnswer, verdict}
 use Rattle.rules.specs.Log.{WellFormed, after, commits}
 use Rattle.rules.specs.Lookup.{seen, lookup}
@@ -23,16 +24,19 @@ use Rattle.rules.specs.Demands.{Passes, lastWrite}
 use Rattle.rules.proofs.Bound.{looks-limit}
 use Rattle.rules.proofs.LastWrite.{last-write}
 use Rattle.rules.proofs.Passing.{commits-exactly}
+use Rattle.rules.proofs.Positions.{after-p, after-N, after-Z}
 use Rattle.meld.specs.declared.kept.Lookup.{Lookup}
+use Rattle.meld.specs.declared.kept.Status.{Status}
 use Rattle.meld.specs.declared.melding.Melded.{Melded}
 use Rattle.meld.specs.Lookups.{LooksUp, lookupOf}
 use Rattle.meld.specs.Melds.{Melds, meldedOf}
+use Rattle.meld.specs.Statuses.{StatusIs, statusOf}
 use Rattle.meld.proofs.Lookups.{lookup-case}
 use Rattle.demands.specs.Runs.{Means, PoolAt}
 use Rattle.demands.proofs.Following.{AllBytes, no-bytes, more-bytes, parsed-valid, meld-means}
 use Rattle.demands.proofs.Reading.{parts-bytes, first-bytes}
 use Rattle.demands.proofs.Cards.{map-take}
-use Rattle.demands.proofs.Chains.{pool-means}
+use Rattle.demands.proofs.Chains.{pool-means, pool-few}
 
 -- what bytes parse to is well formed
 parsed-well-formed : {parts : List (List ℕ)} → AllBytes parts → WellFormed (map parse parts)
@@ -90,3 +94,15 @@ module _ (N Z : ℕ) (log : List ℕ) (lent : Bytes log) (parts : List (List ℕ
   lookup-on-bytes k x h =
       let mean = past-means in
       lookup-case m k x h (mean .arrangement) (mean .image) ∙ ap (λ (S : State). lookupOf (lookup k S)) (mean .state) ∙ ap lookupOf (last-write N Z past past-well-formed k)
+
+  -- status tells the card's own limits, and as the position how many records it has melded, while positions last
+  pub status-on-bytes : (x : Status) → StatusIs m x → q ≤ lastPosition → (x .answer ≡ Names.committed) × (x .limit ≡ N) × (x .zone ≡ Z) × (x .position ≡ q)
+  status-on-bytes x h few =
+      let mean = past-means in
+      let e : x ≡ statusOf (after (fresh N Z) past) = h .fit (mean .arrangement) (mean .image) ∙ ap statusOf (mean .state) in
+      let so-many : length past ≡ q = length-map (take q parts) parse ∙ length-take-le q parts (omega (arith, pool-few N Z log lent parts last w at-q, length-map parts parse)) in (
+        ap (λ (y : Status). y .answer) e,
+        ap (λ (y : Status). y .limit) e ∙ after-N (fresh N Z) past,
+        ap (λ (y : Status). y .zone) e ∙ after-Z (fresh N Z) past,
+        omega (arith, ap (λ (y : Status). y .position) e, after-p (fresh N Z) past (omega (arith, so-many, few)), so-many),
+      )

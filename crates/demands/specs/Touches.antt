@@ -1,5 +1,5 @@
 -- Demand 1: which lent bytes can differ at exit, by the answer. Functions that are lent everything by `&` change nothing: `check`, `cut`,
--- `part`, `fit`, `lookup`, `in_force`.
+-- `part`, `fit`, `status`, `lookup`, `in_force`.
 -- Assumes nothing: these are definitions.
 use Prim.Native.Nat.{ℕ, _≤_, _<_}
 use mathlib.Core.Path.{_≡_}
