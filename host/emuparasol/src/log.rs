@@ -84,7 +84,7 @@ impl FusedIterator for Records<'_> {}
 /// Answer 10: no whole record stands at this place of the log.
 ///
 /// If fewer than [`MOST_RECORD`](crate::MOST_RECORD) bytes are left there, the
-/// record may not be all there yet; with more, there will never be one.
+/// record may not be all there yet; otherwise there will never be one.
 #[derive(Clone, Copy, Debug, PartialEq, Eq, Hash)]
 #[non_exhaustive]
 pub struct BrokenLog {
