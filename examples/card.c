@@ -1,25 +1,41 @@
-/* A card's loop: append, read, meld, act on the answer. */
+/* A card's loop: read, meld, act on the answer; make a record, append it; and look whether all went right. */
+#include <string.h>
+
 #include "card.h"
 
 /* After power-up, a reset or a damaged pool: an empty pool, and the log from its first byte. */
 void card_start(struct card *card) {
     emuparasol_create(card->pool, sizeof card->pool, CARD_KEYS, CARD_ZONE);
     card->place = 0;
-    card->position = 0;
+    card->records = 0;
 }
 
-/* Melds what the log has and the card has not seen. Answers 0 if the rest of the log is empty or a record that is not all there yet, 10 if no record
-   can stand there, 6 if this log has used up its positions, 7 if the pool was damaged and was so again when it had been built anew. */
+/* The record that begins at a place of the log. Answers 0 with its bytes in part and its size; the size is 0 if the log ends there, or with a record that
+   is not all there yet. Answers 10 if no record can begin so. */
+static uint8_t record_at(uint64_t place, uint8_t part[EMUPARASOL_MOST_RECORD], uint64_t *size) {
+    uint64_t got = flash_read(place, part, EMUPARASOL_MOST_RECORD);
+    *size = 0;
+    if (got < 2) /* not even a length */
+        return EMUPARASOL_COMMITTED;
+    /* Of as many bytes as the longest record has, 10 can only mean the length. */
+    uint8_t answer = emuparasol_cut(part, EMUPARASOL_MOST_RECORD, 0, size);
+    if (*size > got)
+        *size = 0;
+    return answer;
+}
+
+/* Melds what the log has and the card has not seen. Answers 0 when there is no more, or a record that is not all there yet; 10 if no record can begin
+   there; 6 if this log has used up its positions; 7 if the pool was damaged and was so again when it had been built anew. */
 uint8_t card_catch_up(struct card *card) {
-    uint8_t part[EMUPARASOL_MOST_RECORD];
+    uint8_t part[EMUPARASOL_MOST_RECORD] = {0};
     bool again = false;
     for (;;) {
-        uint64_t got = flash_read(card->place, part, sizeof part), next;
-        uint8_t found = emuparasol_cut(part, got, 0, &next);
-        if (next == 0) /* no whole record; with as many bytes as the longest has, there will never be one */
-            return got < sizeof part ? EMUPARASOL_COMMITTED : found;
+        uint64_t size;
+        uint8_t answer = record_at(card->place, part, &size);
+        if (size == 0)
+            return answer;
         uint32_t looks;
-        uint8_t answer = emuparasol_meld(card->pool, sizeof card->pool, part, next, &looks);
+        answer = emuparasol_meld(card->pool, sizeof card->pool, part, size, &looks);
         switch (answer) {
         case EMUPARASOL_UNFIT_POOL: /* something wrote into the pool: build it again, but not for ever */
             if (again)
@@ -29,22 +45,76 @@ uint8_t card_catch_up(struct card *card) {
             break;
         case EMUPARASOL_POSITIONS_USED_UP: /* nothing was changed, and nothing will be: this log is full */
             return answer;
-        default: /* 0 to 5: the record has its position and its verdict, the same on every card */
-            card->place += next;
-            card->position++;
-            card_verdict(card, card->position, answer);
+        default: /* 0 to 5: the record has its position and its verdict, the same on every card, and is never melded again */
+            card->place += size;
+            card->records++;
+            card_verdict(card, card->records, answer);
         }
     }
 }
 
-/* Appends a record that was made some time ago, brought up to where the card is. Answers 0 or 5 if it was appended; its verdict comes by
-   card_catch_up. Any other answer says why there was nothing to append, or 8 that the flash refused. */
-uint8_t card_submit(struct card *card, const uint8_t *record, uint64_t length) {
+/* The snapshot of a transaction that begins now: to be asked for before its first lookup. Answers 0, or 7 if the pool was damaged. */
+uint8_t card_begin(const struct card *card, uint32_t *snapshot) {
+    uint32_t n, z, kept, tombstones;
+    return emuparasol_status(card->pool, sizeof card->pool, &n, &z, snapshot, &kept, &tombstones);
+}
+
+/* Brings a record that waits up to where the card is, in its own bytes. Answers 0 if it is. Answers 5 if it was made on a card that is further than this
+   one, or 7 if the pool was damaged: it is as before, and can be tried again later. After 1, 2 or 4 it can be thrown away. */
+uint8_t card_refresh(const struct card *card, uint8_t *record, uint64_t length) {
     uint8_t output[EMUPARASOL_MOST_RECORD];
     uint64_t offset, size;
     uint8_t answer = emuparasol_refresh(card->pool, sizeof card->pool, record, length, output, sizeof output);
-    const uint8_t *from = emuparasol_in_force(answer, record, length, output, sizeof output, &offset, &size) ? output : record;
-    if (size == 0)
+    if (emuparasol_in_force(answer, record, length, output, sizeof output, &offset, &size))
+        memcpy(record, output + offset, size);
+    return answer;
+}
+
+/* Appends a record, with the log's lock held. The last whole record ends at this place or behind it. Answers 0 if the record is in the log, and else 10, or
+   8 if the flash refused. */
+static uint8_t append(uint64_t place, const uint8_t *record, uint64_t length) {
+    uint8_t part[EMUPARASOL_MOST_RECORD] = {0};
+    uint64_t size;
+    do { /* what other cards have appended since; it is melded later */
+        if (record_at(place, part, &size) != EMUPARASOL_COMMITTED)
+            return EMUPARASOL_BROKEN_LOG;
+        place += size;
+    } while (size > 0);
+    /* Bytes behind the last whole record are of an append that failed: nobody is writing them, and no card has melded them. */
+    if (flash_read(place, part, 1) > 0 && !flash_cut_off(place))
+        return EMUPARASOL_OUTPUT_SHORT;
+    /* If the flash refuses, the log itself says whether the record is there after all. */
+    if (flash_append(record, length) || flash_read(place, part, length) == length)
+        return EMUPARASOL_COMMITTED;
+    return EMUPARASOL_OUTPUT_SHORT;
+}
+
+/* Appends a record that was made some time ago, brought up to where the card is. Answers 0 if it is in the log; its verdict comes by card_catch_up. After
+   any other answer it is not: 8 if the flash refused, 7 if the pool was damaged (card_start), 6 and 10 as from card_catch_up, 5, 1, 2 and 4 as from
+   card_refresh. */
+uint8_t card_submit(struct card *card, uint8_t *record, uint64_t length) {
+    uint8_t answer = card_catch_up(card);
+    if (answer == EMUPARASOL_COMMITTED)
+        answer = card_refresh(card, record, length);
+    if (answer != EMUPARASOL_COMMITTED)
         return answer;
-    return flash_append(from + offset, size) ? answer : EMUPARASOL_OUTPUT_SHORT;
+    flash_lock();
+    answer = append(card->place, record, length);
+    flash_unlock();
+    return answer;
+}
+
+/* Whether the pool has as many positions as the log has records before the card's place. If not, the card has parted from the others: card_start. */
+bool card_in_step(const struct card *card) {
+    uint8_t part[EMUPARASOL_MOST_RECORD] = {0};
+    uint32_t position, records = 0;
+    uint64_t place = 0, size;
+    while (place < card->place) {
+        record_at(place, part, &size);
+        if (size == 0)
+            return false;
+        place += size;
+        records++;
+    }
+    return card_begin(card, &position) == EMUPARASOL_COMMITTED && place == card->place && position == records;
 }

@@ -1,74 +1,80 @@
-/* Two cards on one log, with memory for the flash: what they say and that their pools stay equal, byte for byte. */
+/* Two cards on one log: what they say, that their pools stay equal byte for byte, and what they say of a tail that is no whole record. */
 #include <stdio.h>
 #include <string.h>
 
-#include "card.h"
-
-static uint8_t flash[4096];
-static uint64_t written;
-static struct card left, right;
-
-uint64_t flash_read(uint64_t place, uint8_t *to, uint64_t room) {
-    uint64_t count = written - place < room ? written - place : room;
-    memcpy(to, flash + place, count);
-    return count;
-}
-
-bool flash_append(const uint8_t *record, uint64_t length) {
-    if (sizeof flash - written < length)
-        return false;
-    memcpy(flash + written, record, length);
-    written += length;
-    return true;
-}
+#include "stage.h"
 
 void card_verdict(struct card *card, uint32_t position, uint8_t answer) {
     if (card == &left)
-        printf("record %lu: answer %u\n", (unsigned long)position, (unsigned)answer);
-}
-
-/* A record that puts one key, made when the card was at this position. */
-static uint64_t put(uint32_t snapshot, uint32_t key, uint64_t payload, uint8_t *record) {
-    const uint8_t kind = EMUPARASOL_KIND_PUT;
-    const uint32_t none = 0;
-    uint64_t size;
-    emuparasol_write(snapshot, &kind, 1, &key, 1, &payload, 1, &none, 0, &none, 0, record, EMUPARASOL_MOST_RECORD, &size);
-    return size;
+        printf("record %lu: %u %s\n", (unsigned long)position, (unsigned)answer, emuparasol_answer_name(answer));
 }
 
 static void both_catch_up(void) {
     uint8_t one = card_catch_up(&left), other = card_catch_up(&right);
-    printf("caught up: %u and %u, pools %s\n", (unsigned)one, (unsigned)other,
-           memcmp(left.pool, right.pool, sizeof left.pool) == 0 ? "equal" : "DIFFERENT");
+    printf("caught up: %u and %u, pools %s\n", (unsigned)one, (unsigned)other, stage_pools());
+}
+
+/* A put of one key, by a card whose tenant saw the log up to this snapshot. */
+static void submit(struct card *card, uint32_t snapshot, uint32_t key, uint64_t payload) {
+    uint8_t record[EMUPARASOL_MOST_RECORD];
+    uint8_t answer = card_submit(card, record, stage_put(snapshot, key, payload, record));
+    printf("%s submits %lu = %lu: %u %s\n", card == &left ? "left" : "right", (unsigned long)key, (unsigned long)payload, (unsigned)answer,
+           answer == EMUPARASOL_COMMITTED ? "appended" : emuparasol_answer_name(answer));
+}
+
+static void left_leases(void) { submit(&left, 0, 7, 100); }
+
+static void erased_bytes(void) { stage_leave((const uint8_t[]){0xFF, 0xFF}, 2); }
+
+/* What the left card says of these bytes behind the last record; then they are taken away again. */
+static void tail(const char *what, const uint8_t *bytes, uint64_t count) {
+    uint64_t length = stage_length();
+    stage_leave(bytes, count);
+    printf("behind the last record %s: %u\n", what, (unsigned)card_catch_up(&left));
+    flash_lock();
+    flash_cut_off(length);
+    flash_unlock();
 }
 
 int main(void) {
-    uint8_t record[EMUPARASOL_MOST_RECORD];
-    uint64_t payload;
-    uint32_t position;
-    card_start(&left);
-    card_start(&right);
-    /* Both lease port 7 at the same time; the first in the log has it. */
-    printf("left submits: %u\n", (unsigned)card_submit(&left, record, put(0, 7, 100, record)));
-    printf("right submits: %u\n", (unsigned)card_submit(&right, record, put(0, 7, 200, record)));
+    uint8_t record[EMUPARASOL_MOST_RECORD], erased[904];
+    uint32_t n, z, position, kept, tombstones;
+    stage_clear();
+    /* Both lease port 7 at the same time: the left card is the first to get the lock. The right one's record is there too, and every card refuses it. */
+    stage_meanwhile(left_leases);
+    submit(&right, 0, 7, 200);
     both_catch_up();
-    /* The loser tries again with what it knew then: refresh sees the conflict, and nothing is appended. */
-    printf("right submits: %u\n", (unsigned)card_submit(&right, record, put(0, 7, 200, record)));
-    /* With what it knows now it goes through, though made a record ago. */
-    printf("right submits: %u\n", (unsigned)card_submit(&right, record, put(1, 7, 200, record)));
+    /* The loser tries again with what it knew then: its refresh sees the conflict, and nothing is appended. */
+    submit(&right, 0, 7, 200);
+    /* With what it knows now, the loser's goes through, though made a record ago. */
+    submit(&right, 1, 7, 200);
     both_catch_up();
-    unsigned answer = emuparasol_lookup(left.pool, sizeof left.pool, 7, &payload, &position);
-    printf("lookup of 7: %u, payload %lu, position %lu\n", answer, (unsigned long)payload, (unsigned long)position);
+    emuparasol_status(left.pool, sizeof left.pool, &n, &z, &position, &kept, &tombstones);
+    printf("status: N %lu, Z %lu, position %lu, %lu keys, %lu tombstones\n", (unsigned long)n, (unsigned long)z, (unsigned long)position,
+           (unsigned long)kept, (unsigned long)tombstones);
+    printf("lookup of 7: %lu\n", stage_payload(&left, 7));
     /* A card is pulled, and comes back: its pool is built again from the log. */
     memset(&right, 0xFF, sizeof right);
     card_start(&right);
     both_catch_up();
     /* A byte of a pool is hit: the next meld notices, and the card builds it again. */
     left.pool[100] ^= 4;
-    printf("right submits: %u\n", (unsigned)card_submit(&right, record, put(3, 8, 300, record)));
+    submit(&right, 3, 8, 300);
     both_catch_up();
-    /* Half a record on flash is not there yet. */
-    flash_append(record, 5);
+    /* A record that is not all there yet is no error, a length that no record has is one at once. */
+    memset(erased, 0xFF, sizeof erased);
+    stage_put(4, 9, 400, record);
+    tail("a record's first byte", record, 1);
+    tail("five bytes of a record", record, 5);
+    tail("all bytes of a record but one", record, 21);
+    tail("the length 903", (const uint8_t[]){0x03, 0x87}, 2);
+    tail("the length 904", (const uint8_t[]){0x03, 0x88}, 2);
+    tail("the length 6", (const uint8_t[]){0x00, 0x06}, 2);
+    tail("904 bytes of FF", erased, sizeof erased);
+    /* Nothing is appended behind such bytes, also if they come while the card waits for the lock; nor are they cut off. */
+    stage_meanwhile(erased_bytes);
+    submit(&right, 4, 9, 400);
+    submit(&right, 4, 9, 400);
     both_catch_up();
     return 0;
 }
