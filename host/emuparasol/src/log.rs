@@ -5,6 +5,7 @@ use core::iter::FusedIterator;
 
 use crate::answer::Error;
 use crate::calls;
+use crate::record::MOST_RECORD;
 
 /// The records of a log, one after the other, each as its bytes.
 ///
@@ -16,11 +17,12 @@ use crate::calls;
 /// ```
 /// use emuparasol::Records;
 ///
+/// // A record of 9 bytes, and the first four of another.
 /// let log = [0, 7, 1, 0, 0, 0, 0, 0, 0, 0, 7, 1, 0];
 /// let mut records = Records::new(&log);
 /// assert_eq!(records.next(), Some(Ok(&log[..9])));
 /// let broken = records.next().and_then(Result::err).ok_or("a whole log")?;
-/// assert_eq!(broken.place, 9);
+/// assert_eq!((broken.place, broken.torn), (9, true));
 /// assert_eq!(records.next(), None);
 /// # Ok::<(), &str>(())
 /// ```
@@ -73,7 +75,8 @@ impl<'a> Iterator for Records<'a> {
             }
             _ => {
                 self.told = true;
-                Some(Err(BrokenLog { place }))
+                let torn = self.log.get(place..).is_some_and(torn);
+                Some(Err(BrokenLog { place, torn }))
             }
         }
     }
@@ -82,14 +85,27 @@ impl<'a> Iterator for Records<'a> {
 impl FusedIterator for Records<'_> {}
 
 /// Answer 10: no whole record stands at this place of the log.
-///
-/// If fewer than [`MOST_RECORD`](crate::MOST_RECORD) bytes are left there, the
-/// record may not be all there yet; otherwise there will never be one.
 #[derive(Clone, Copy, Debug, PartialEq, Eq, Hash)]
 #[non_exhaustive]
 pub struct BrokenLog {
     /// Where the record should begin; the first byte of a log has place 0.
     pub place: usize,
+    /// Can a record begin with the bytes that are left there? Then it is not all there
+    /// yet, or was torn when it was appended. If not, no record can stand there, whatever
+    /// is appended.
+    pub torn: bool,
+}
+
+/// Can a record begin with these bytes, which are no whole one? The library is asked,
+/// with as many bytes behind them as the longest record has: only a length that cannot
+/// be is broken then.
+fn torn(rest: &[u8]) -> bool {
+    let mut part = [0; MOST_RECORD];
+    for (to, from) in part.iter_mut().zip(rest) {
+        *to = *from;
+    }
+    let mut next = 0;
+    rest.len() < 2 || calls::cut(&part, 0, &mut next) == 0
 }
 
 impl fmt::Display for BrokenLog {

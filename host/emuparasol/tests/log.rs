@@ -5,8 +5,12 @@ mod common;
 use emuparasol::{Records, MOST_RECORD};
 use std::iter::FusedIterator;
 
-/// The records and, if the log is broken, the place; after that nothing more comes.
-fn walk(mut records: Records<'_>) -> (Vec<&[u8]>, Option<usize>, usize) {
+/// What a walk gives: the records; the place if the log is broken, and whether it is
+/// torn there; the last place.
+type Walk<'a> = (Vec<&'a [u8]>, Option<(usize, bool)>, usize);
+
+/// A walk, after which nothing more comes.
+fn walk(mut records: Records<'_>) -> Walk<'_> {
     fn fused(_: &impl FusedIterator) {}
     fused(&records);
     let (mut parts, mut broken) = (Vec::new(), None);
@@ -14,7 +18,7 @@ fn walk(mut records: Records<'_>) -> (Vec<&[u8]>, Option<usize>, usize) {
         assert_eq!(broken, None, "a step after the broken place");
         match step {
             Ok(part) => parts.push(part),
-            Err(error) => broken = Some(error.place),
+            Err(error) => broken = Some((error.place, error.torn)),
         }
     }
     for _ in 0..3 {
@@ -24,10 +28,15 @@ fn walk(mut records: Records<'_>) -> (Vec<&[u8]>, Option<usize>, usize) {
 }
 
 /// The same by the reference.
-fn expected(log: &[u8]) -> (Vec<&[u8]>, Option<usize>, usize) {
+fn expected(log: &[u8]) -> Walk<'_> {
     let (parts, rest) = reference::log::parts(log);
     let place = log.len() - rest.len();
-    (parts, (!rest.is_empty()).then_some(place), place)
+    let torn = match *rest {
+        [] => return (parts, None, place),
+        [_] => true,
+        [high, low, ..] => (7..=903).contains(&u16::from_be_bytes([high, low])),
+    };
+    (parts, Some((place, torn)), place)
 }
 
 /// The logs of some seeds, each of at most so many bytes.
@@ -90,10 +99,11 @@ fn a_place_past_the_end_is_broken() {
     let log = [0, 7, 1, 0, 0, 0, 0, 0, 0];
     assert_eq!(walk(Records::at(&log, 9)), (vec![], None, 9));
     for place in [10, 11, 1_000, usize::MAX - 1, usize::MAX] {
-        assert_eq!(walk(Records::at(&log, place)), (vec![], Some(place), place));
+        let broken = Some((place, false));
+        assert_eq!(walk(Records::at(&log, place)), (vec![], broken, place));
     }
     assert_eq!(walk(Records::new(&[])), (vec![], None, 0));
-    assert_eq!(walk(Records::at(&[], 1)), (vec![], Some(1), 1));
+    assert_eq!(walk(Records::at(&[], 1)), (vec![], Some((1, false)), 1));
 }
 
 #[test]
@@ -104,12 +114,44 @@ fn lengths_of_records() {
         let good = (7..=903).contains(&length);
         let parts = if good { vec![&log[..]] } else { vec![] };
         let place = if good { log.len() } else { 0 };
-        let broken = (!good).then_some(0);
+        let broken = (!good).then_some((0, false));
         assert_eq!(walk(Records::new(&log)), (parts, broken, place));
     }
     // The longest record, and a byte missing; a malformed record is still a record.
     let mut log = vec![0; MOST_RECORD];
     log[..2].copy_from_slice(&903_u16.to_be_bytes());
     assert_eq!(walk(Records::new(&log)).0, [&log[..]]);
-    assert_eq!(walk(Records::new(&log[..904])).1, Some(0));
+    assert_eq!(walk(Records::new(&log[..904])).1, Some((0, true)));
+}
+
+#[test]
+fn torn_or_never_a_record() {
+    // Every length, with every number of bytes behind it that a torn record can have.
+    for length in 0..=u16::MAX {
+        let possible = (7..=903).contains(&length);
+        let whole = usize::from(length) + 2;
+        for rest in [1, 2, 3, 8, 9, whole - 1, 904, 905, 2_000] {
+            let mut log = vec![0xFF; rest.max(2)];
+            log[..2].copy_from_slice(&length.to_be_bytes());
+            log.truncate(rest);
+            if rest < 2 || !possible || rest < whole {
+                let torn = rest < 2 || possible;
+                assert_eq!(
+                    walk(Records::new(&log)).1,
+                    Some((0, torn)),
+                    "{length} {rest}"
+                );
+            }
+        }
+    }
+    // Cut off anywhere, a whole log is torn or ends; erased flash is neither.
+    for log in logs(2_000) {
+        let whole = expected(&log).2;
+        for end in 0..=whole {
+            let broken = walk(Records::new(&log[..end])).1;
+            assert!(broken.map_or(true, |(_, torn)| torn));
+        }
+        let erased = [&log[..whole], &[0xFF; 20]].concat();
+        assert_eq!(walk(Records::new(&erased)).1, Some((whole, false)));
+    }
 }
