@@ -1,23 +1,51 @@
-//! The nine calls as they are, with lent slices and numbers, and the answers as
-//! numbers. A slice of Rust is never null, a `&mut` overlaps nothing, and that is
-//! all the archive asks (see the head of `include/emuparasol.h`), so each call is
-//! sound.
+//! The calls as they are, with lent slices and numbers, and the answers as numbers.
+//! A slice or a reference of Rust is never null and aligned, its length is the one
+//! passed, and a `&mut` overlaps nothing: that is all the archive asks (see the head
+//! of `include/emuparasol.h`), so each call is sound, whatever is lent.
+//!
+//! Not a part of the documented surface, which stands above it.
 #![allow(unsafe_code)]
 
 use crate::declared::*;
 
 /// See `emuparasol_create`.
 pub fn create(pool: &mut [u8], n: u32, z: u32) -> u8 {
+    // SAFETY: slices and references, as the head of this file says.
     unsafe { emuparasol_create(pool.as_mut_ptr(), pool.len() as u64, n, z) }
+}
+
+/// See `emuparasol_status`.
+pub fn status(
+    pool: &[u8],
+    n: &mut u32,
+    z: &mut u32,
+    position: &mut u32,
+    kept: &mut u32,
+    tombstones: &mut u32,
+) -> u8 {
+    // SAFETY: slices and references, as the head of this file says.
+    unsafe {
+        emuparasol_status(
+            pool.as_ptr(),
+            pool.len() as u64,
+            n,
+            z,
+            position,
+            kept,
+            tombstones,
+        )
+    }
 }
 
 /// See `emuparasol_lookup`.
 pub fn lookup(pool: &[u8], key: u32, payload: &mut u64, position: &mut u32) -> u8 {
+    // SAFETY: slices and references, as the head of this file says.
     unsafe { emuparasol_lookup(pool.as_ptr(), pool.len() as u64, key, payload, position) }
 }
 
 /// See `emuparasol_meld`.
 pub fn meld(pool: &mut [u8], record: &[u8], looks: &mut u32) -> u8 {
+    // SAFETY: slices and references, as the head of this file says.
     unsafe {
         emuparasol_meld(
             pool.as_mut_ptr(),
@@ -31,6 +59,7 @@ pub fn meld(pool: &mut [u8], record: &[u8], looks: &mut u32) -> u8 {
 
 /// See `emuparasol_refresh`.
 pub fn refresh(pool: &[u8], original: &[u8], output: &mut [u8]) -> u8 {
+    // SAFETY: slices and references, as the head of this file says.
     unsafe {
         emuparasol_refresh(
             pool.as_ptr(),
@@ -51,6 +80,7 @@ pub fn in_force(
     offset: &mut u64,
     length: &mut u64,
 ) -> bool {
+    // SAFETY: slices and references, as the head of this file says.
     unsafe {
         emuparasol_in_force(
             answer,
@@ -66,6 +96,7 @@ pub fn in_force(
 
 /// See `emuparasol_check`.
 pub fn check(record: &[u8]) -> u8 {
+    // SAFETY: slices and references, as the head of this file says.
     unsafe { emuparasol_check(record.as_ptr(), record.len() as u64) }
 }
 
@@ -82,6 +113,7 @@ pub fn read(
     points: &mut u64,
     scans: &mut u64,
 ) -> u8 {
+    // SAFETY: slices and references, as the head of this file says.
     unsafe {
         emuparasol_read(
             record.as_ptr(),
@@ -115,6 +147,7 @@ pub fn write(
     output: &mut [u8],
     size: &mut u64,
 ) -> u8 {
+    // SAFETY: slices and references, as the head of this file says.
     unsafe {
         emuparasol_write(
             snapshot,
@@ -137,5 +170,6 @@ pub fn write(
 
 /// See `emuparasol_cut`.
 pub fn cut(log: &[u8], place: u64, next: &mut u64) -> u8 {
+    // SAFETY: slices and references, as the head of this file says.
     unsafe { emuparasol_cut(log.as_ptr(), log.len() as u64, place, next) }
 }

@@ -5,14 +5,16 @@
 
 mod common;
 
-use common::{fresh, lookup, lookup_both, meld, meld_both, refresh, refresh_both, seeded};
+use common::{fresh, lookup, lookup_both, means, meld, meld_both};
+use common::{refresh, refresh_both, seeded, status};
 use reference::layout::state_of;
 use reference::random::Random;
 use reference::State;
 
-/// All three calls on these bytes, compared; are they fit?
+/// All four calls on these bytes, compared; are they fit?
 fn judge(pool: &[u8], record: &[u8], key: u32) -> bool {
     let Some(state) = state_of(pool) else {
+        assert_eq!(status(pool), (7, [0; 5]));
         assert_eq!(lookup(pool, key), (7, 0, 0));
         let mut lent = pool.to_vec();
         assert_eq!(meld(&mut lent, record), (7, 0));
@@ -22,6 +24,7 @@ fn judge(pool: &[u8], record: &[u8], key: u32) -> bool {
         assert_eq!(output, vec![0xC3; record.len()]);
         return false;
     };
+    means(pool, &state);
     lookup_both(pool, &state, key);
     refresh_both(pool, &state, record, record.len());
     meld_both(&mut pool.to_vec(), &mut state.clone(), record);

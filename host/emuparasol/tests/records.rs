@@ -1,9 +1,11 @@
 //! Records: check, read, write and cut against the reference, on records of
-//! every length, valid and damaged.
+//! every length, valid and damaged; by the calls with their lists, and by the types.
 
 mod common;
 
-use common::{check, cut, read, write, Lists};
+use common::raw::{read, write, Lists};
+use common::{check, cut, full_buffer, same_record};
+use emuparasol::Error;
 use reference::lists::{self, ListsOut};
 use reference::random::Random;
 use reference::record::with_length;
@@ -40,7 +42,27 @@ fn read_both(bytes: &[u8], points: usize, scans: usize) -> u8 {
     let found = read(bytes, &mut lists);
     assert_eq!(found, (answer.number(), snapshot, read_points, read_scans));
     assert_eq!(lists, expected);
+    read_typed(bytes);
     answer.number()
+}
+
+/// Reads the bytes into a buffer that was full before, and compares.
+fn read_typed(bytes: &[u8]) {
+    let (mut buffer, before) = (full_buffer(), full_buffer());
+    let mut lent = common::bytes(bytes);
+    match (buffer.read(lent.lent()), Record::parse(bytes)) {
+        (Ok(found), Ok(expected)) => {
+            assert!(same_record(&found, &expected), "{found:?}");
+            assert_eq!(buffer.record().points.len(), expected.points.len());
+            assert!(same_record(&buffer.record(), &expected));
+        }
+        (Err(error), Err(_)) => {
+            assert_eq!(error, Error::Malformed);
+            assert_eq!(buffer.record(), before.record());
+        }
+        (found, expected) => panic!("{found:?} {expected:?}"),
+    }
+    lent.same(bytes);
 }
 
 /// Cuts at a place in both, and compares.
@@ -211,7 +233,32 @@ fn write_both(snapshot: u32, lists: &Lists, room: usize) -> u8 {
     );
     assert_eq!(write(snapshot, lists, &mut output), (answer.number(), size));
     assert_eq!(output, expected);
+    if let Some((points, scans)) = typed(lists) {
+        let record = emuparasol::Record {
+            snapshot,
+            points: &points,
+            scans: &scans,
+        };
+        assert_eq!(common::write(&record, room), (answer.number(), expected));
+    }
     answer.number()
+}
+
+/// The lists as points and scans; none if they cannot be said so.
+fn typed(lists: &Lists) -> Option<(Vec<emuparasol::Point>, Vec<emuparasol::Scan>)> {
+    let Lists { kinds, keys, .. } = lists;
+    let mut points = Vec::new();
+    for ((kind, &key), &payload) in kinds.iter().zip(keys).zip(&lists.payloads) {
+        points.push(match (kind, payload) {
+            (1, 0) => emuparasol::Point::read(key),
+            (2, payload) => emuparasol::Point::put(key, payload),
+            (3, 0) => emuparasol::Point::delete(key),
+            _ => return None,
+        });
+    }
+    let ends = lists.lows.iter().zip(&lists.highs);
+    let scans = ends.map(|(&low, &high)| emuparasol::Scan { low, high });
+    Some((points, scans.collect()))
 }
 
 #[test]
@@ -257,6 +304,97 @@ fn lists_written_valid_and_damaged() {
         counts[0] > 500 && counts[4] > 100 && counts[8] > 500,
         "{counts:?}"
     );
+}
+
+#[test]
+fn records_written_are_read_back() {
+    let mut random = Random::new(6);
+    let mut buffer = full_buffer();
+    let mut count = 0;
+    for length in (9..=905).rev() {
+        let Some(record) = of_length(length, &mut random) else {
+            continue;
+        };
+        count += 1;
+        let points: Vec<_> = record.points.iter().map(common::point).collect();
+        let scans: Vec<_> = record.scans.iter().map(common::scan).collect();
+        let typed = emuparasol::Record {
+            snapshot: record.snapshot,
+            points: &points,
+            scans: &scans,
+        };
+        // The longer record that was read before leaves nothing behind.
+        assert_eq!(common::write(&typed, length), (0, record.to_bytes()));
+        assert_eq!(common::write(&typed, length - 1).0, 8);
+        assert_eq!(buffer.read(&record.to_bytes()), Ok(typed));
+        assert_eq!(buffer.record(), typed);
+    }
+    assert!(count > 800, "{count}");
+}
+
+#[test]
+fn points_and_scans_that_break_a_rule_are_malformed() {
+    use emuparasol::{Point, Record, Scan};
+    let rising: Vec<Point> = (0..65).map(Point::read).collect();
+    let apart: Vec<Scan> = (0..9).map(|low| Scan { low, high: low }).collect();
+    let scan = |low, high| Scan { low, high };
+    let written = |points: &[Point], scans: &[Scan]| {
+        let snapshot = 5;
+        let record = Record {
+            snapshot,
+            points,
+            scans,
+        };
+        // Malformed comes before output short.
+        assert_eq!(
+            common::write(&record, 0).0 == 4,
+            common::write(&record, 1_000).0 == 4
+        );
+        common::write(&record, 1_000).0
+    };
+    assert_eq!(written(&rising[..64], &apart[..8]), 0);
+    assert_eq!(written(&rising, &[]), 4);
+    assert_eq!(written(&[], &apart), 4);
+    let many = vec![Point::read(1); 1_000];
+    assert_eq!(written(&many, &[]), 4);
+    assert_eq!(written(&[], &vec![scan(1, 1); 1_000]), 4);
+    // Not in order, and the same key twice, whatever is done with it.
+    assert_eq!(written(&[Point::read(2), Point::read(1)], &[]), 4);
+    assert_eq!(written(&[Point::put(3, 1), Point::delete(3)], &[]), 4);
+    assert_eq!(written(&[Point::read(u32::MAX), Point::read(0)], &[]), 4);
+    // Ends exchanged, a key in common, not in order; touching is no flaw.
+    assert_eq!(written(&[], &[scan(2, 1)]), 4);
+    assert_eq!(written(&[], &[scan(1, 5), scan(5, 9)]), 4);
+    assert_eq!(written(&[], &[scan(6, 9), scan(1, 5)]), 4);
+    assert_eq!(written(&[], &[scan(1, 5), scan(6, 9)]), 0);
+    // Points and scans may share keys.
+    assert_eq!(written(&[Point::put(3, 1)], &[scan(1, 5)]), 0);
+}
+
+#[test]
+fn points_say_what_they_are() {
+    use emuparasol::Point;
+    let points = [Point::read(4), Point::put(5, 6), Point::delete(7)];
+    assert_eq!(points.map(Point::key), [4, 5, 7]);
+    assert_eq!(points.map(Point::payload), [None, Some(6), None]);
+    assert_eq!(points[0], Point::Read { key: 4 });
+    let (key, payload) = (5, 6);
+    assert_eq!(points[1], Point::Put { key, payload });
+    assert_eq!(points[2], Point::Delete { key: 7 });
+}
+
+#[test]
+fn the_limits_of_a_record_are_the_headers() {
+    let header = include_str!("../../../include/emuparasol.h");
+    for (name, number) in [
+        ("LEAST_RECORD", emuparasol::LEAST_RECORD),
+        ("MOST_RECORD", emuparasol::MOST_RECORD),
+        ("MOST_POINTS", emuparasol::MOST_POINTS),
+        ("MOST_SCANS", emuparasol::MOST_SCANS),
+    ] {
+        let line = format!("#define EMUPARASOL_{name} {number}\n");
+        assert!(header.contains(&line), "{line}");
+    }
 }
 
 #[test]

@@ -56,20 +56,35 @@ pub fn of_c_names(text: &str) -> Result<Vec<Answer>, String> {
         .collect()
 }
 
-/// The cases of the Rust enum, their words in capitals.
-pub fn of_rust(text: &str) -> Result<Vec<Answer>, String> {
+/// The cases of Rust's enum of verdicts, their words in capitals.
+pub fn of_rust_verdicts(text: &str) -> Result<Vec<Answer>, String> {
     let text = without_comments(text);
-    let block = between(&text, "pub enum Answer {", "}").ok_or("no enum Answer")?;
-    listed(block, |name| {
-        let mut words = String::new();
-        for letter in name.chars() {
-            if letter.is_ascii_uppercase() && !words.is_empty() {
-                words.push('_');
-            }
-            words.push(letter.to_ascii_uppercase());
-        }
-        Some(words)
+    let block = between(&text, "pub enum Verdict {", "}").ok_or("no enum Verdict")?;
+    listed(block, |name| Some(in_capitals(name)))
+}
+
+/// The cases of Rust's enum of errors, by the numbers that it gives them; the case
+/// for a number of no answer is left out.
+pub fn of_rust_errors(text: &str) -> Result<Vec<Answer>, String> {
+    let text = without_comments(text);
+    let errors = text.split_once("impl Error {").ok_or("no impl Error")?.1;
+    let block = between(errors, "match self {", "}").ok_or("no numbers of errors")?;
+    let known = block.replace("Error::Unknown(number) => number,", "");
+    listed(&known.replace("=>", "="), |name| {
+        name.strip_prefix("Error::").map(in_capitals)
     })
+}
+
+/// `TooOld` as `TOO_OLD`.
+fn in_capitals(name: &str) -> String {
+    let mut words = String::new();
+    for letter in name.chars() {
+        if letter.is_ascii_uppercase() && !words.is_empty() {
+            words.push('_');
+        }
+        words.push(letter.to_ascii_uppercase());
+    }
+    words
 }
 
 /// A list of `NAME = NUMBER` with commas.

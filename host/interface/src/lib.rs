@@ -2,7 +2,7 @@
 //! (`crates/abi`; the record part alone again in `crates/record_abi`), in
 //! `include/emuparasol.h` and in the Rust declarations
 //! (`emuparasol/src/declared.rs`); the answers also in `crates/record` and in the
-//! Rust enum, their names in the header's `emuparasol_answer_name`; the version in
+//! Rust enums, their names in the header's `emuparasol_answer_name`; the version in
 //! the header and in `host/Cargo.toml`. This crate reads each of them and says where two differ.
 //!
 //! It reads the few forms these files use and refuses what it does not know,

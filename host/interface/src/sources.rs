@@ -50,7 +50,8 @@ impl Sources {
         let answers = answers::of_rattle(&self.rattle_answers)?;
         let header_answers = answers::of_c(&self.header)?;
         let header_names = answers::of_c_names(&self.header)?;
-        let rust_answers = answers::of_rust(&self.rust_answers)?;
+        let verdicts = answers::of_rust_verdicts(&self.rust_answers)?;
+        let errors = answers::of_rust_errors(&self.rust_answers)?;
         let proved = "the proved source";
         let mut found = compare_functions(proved, &rattle, "the header", &header);
         // The record part alone has no more functions than the whole, and the same.
@@ -84,12 +85,15 @@ impl Sources {
             &header_names,
         ));
         found.extend(versions::compare(&self.header, &self.cargo)?);
-        found.extend(compare_answers(
-            proved,
-            &answers,
-            "the Rust enum",
-            &rust_answers,
-        ));
+        // 0 to 5 are verdicts, and all but 0 are errors.
+        for (theirs, range, cases) in [
+            ("the Rust verdicts", 0..=5, verdicts),
+            ("the Rust errors", 1..=u8::MAX, errors),
+        ] {
+            let all = answers.iter().filter(|it| range.contains(&it.number));
+            let all: Vec<_> = all.cloned().collect();
+            found.extend(compare_answers(proved, &all, theirs, &cases));
+        }
         Ok((found, rattle.len(), answers.len()))
     }
 }

@@ -166,6 +166,14 @@ fn changed_answers_are_noticed() {
     noticed("NO_ROOM", |it| {
         change(&mut it.rust_answers, "NoRoom = 3", "Full = 3")
     });
+    noticed("AHEAD", |it| change(&mut it.rust_answers, "Ahead = 5,", ""));
+    noticed("UNFIT_POOL", |it| {
+        let (from, to) = ("Error::UnfitPool => 7", "Error::UnfitPool => 6");
+        change(&mut it.rust_answers, from, to)
+    });
+    noticed("OUTPUT_SHORT", |it| {
+        change(&mut it.rust_answers, "Error::OutputShort => 8,", "")
+    });
     noticed("BROKEN_LOG", |it| {
         change(&mut it.rattle_answers, "number: 10", "number: 11")
     });

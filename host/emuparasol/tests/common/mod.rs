@@ -1,11 +1,14 @@
-//! The nine calls with guard elements around everything that is lent: after each
-//! call the guards, and what was lent to be read, are as before.
+//! Every call twice, as it is and by the types above it, with guard elements around
+//! everything that is lent: after each call the guards, and what was lent to be read,
+//! are as before, and both ways say and leave the same.
 #![allow(dead_code)]
 
-use emuparasol::calls;
+pub mod raw;
+
+use emuparasol::{Error, Point, Pool, Record, RecordBuffer, Records, Scan, MOST_RECORD};
 use reference::layout::state_of;
 use reference::program::split;
-use reference::{Answer, Limits, State};
+use reference::{Answer, Kind, Limits, State};
 
 /// Elements before and behind each lent list; odd, so that bytes stand anywhere.
 const GUARD: usize = 33;
@@ -53,174 +56,227 @@ impl<T: Copy + PartialEq> Guarded<T> {
     }
 
     /// The one number of a list of one.
-    fn number(self) -> T {
+    pub fn number(self) -> T {
         self.back()[0]
     }
 }
 
-fn bytes(list: &[u8]) -> Guarded<u8> {
+pub fn bytes(list: &[u8]) -> Guarded<u8> {
     Guarded::new(list, 0x5A)
 }
 
-fn words(list: &[u32]) -> Guarded<u32> {
+pub fn words(list: &[u32]) -> Guarded<u32> {
     Guarded::new(list, 0x5A5A_5A5A)
 }
 
-fn longs(list: &[u64]) -> Guarded<u64> {
+pub fn longs(list: &[u64]) -> Guarded<u64> {
     Guarded::new(list, 0x5A5A_5A5A_5A5A_5A5A)
 }
 
 /// A number that is lent to be written; what it is before must not matter.
-fn size() -> Guarded<u64> {
+pub fn size() -> Guarded<u64> {
     Guarded::new(&[u64::MAX - 7], 0x5A5A_5A5A)
 }
 
 /// A number of the archive as a length or a place.
-fn place(number: u64) -> usize {
+pub fn place(number: u64) -> usize {
     usize::try_from(number).expect("no more than was lent")
+}
+
+/// The number of what a call says, which has to be one of R3.
+pub fn number<T>(said: &Result<T, Error>) -> u8 {
+    match said {
+        Ok(_) => 0,
+        Err(Error::Unknown(number)) => panic!("unknown answer {number}"),
+        Err(error) => error.number(),
+    }
 }
 
 /// `create` in these bytes: the answer.
 pub fn create(pool: &mut Vec<u8>, n: u32, z: u32) -> u8 {
     let mut lent = bytes(pool);
-    let answer = calls::create(lent.lent(), n, z);
-    *pool = lent.back();
+    let limits = emuparasol::Limits { n, z };
+    let answer = number(&Pool::create(lent.lent(), limits));
+    let mut again = bytes(pool);
+    let recreated = Pool::from_bytes(again.lent()).recreate(limits);
+    assert_eq!(number(&recreated), answer);
+    assert_eq!(raw::create(pool, n, z), answer);
+    lent.same(pool);
+    again.same(pool);
     answer
+}
+
+/// `status`: the answer, N, Z, the position, the kept keys and the tombstones.
+pub fn status(pool: &[u8]) -> (u8, [u32; 5]) {
+    let mut lent = bytes(pool);
+    let said = Pool::from_bytes(lent.lent()).status();
+    lent.same(pool);
+    let told = said.map(|it| {
+        let emuparasol::Limits { n, z } = it.limits;
+        [n, z, it.position, it.kept, it.tombstones]
+    });
+    let told = (number(&said), told.unwrap_or_default());
+    assert_eq!(raw::status(pool), told);
+    told
 }
 
 /// `lookup`: the answer, the payload and the position.
 pub fn lookup(pool: &[u8], key: u32) -> (u8, u64, u32) {
-    let (mut lent, mut payload, mut position) = (bytes(pool), longs(&[77]), words(&[78]));
-    let answer = calls::lookup(
-        lent.lent(),
-        key,
-        &mut payload.lent()[0],
-        &mut position.lent()[0],
-    );
+    let mut lent = bytes(pool);
+    let said = Pool::from_bytes(lent.lent()).lookup(key);
     lent.same(pool);
-    (answer, payload.number(), position.number())
+    let found = match said {
+        Ok(Some(found)) => (0, found.payload, found.position),
+        Ok(None) => (0, 0, 0),
+        Err(_) => (number(&said), 0, 0),
+    };
+    assert_eq!(raw::lookup(pool, key), found);
+    found
 }
 
-/// `meld`: the answer and the looks.
+/// `meld`: the answer and the looks. It is an error exactly if no position was taken.
 pub fn meld(pool: &mut Vec<u8>, record: &[u8]) -> (u8, u32) {
-    let (mut lent, mut named, mut looks) = (bytes(pool), bytes(record), words(&[79]));
-    let answer = calls::meld(lent.lent(), named.lent(), &mut looks.lent()[0]);
+    let (mut lent, mut named) = (bytes(pool), bytes(record));
+    let said = Pool::from_bytes(lent.lent()).meld(named.lent());
     named.same(record);
-    *pool = lent.back();
-    (answer, looks.number())
+    let melded = match said {
+        Ok(melded) => (melded.verdict.number(), melded.looks),
+        Err(_) => (number(&said), 0),
+    };
+    assert_eq!(said.is_err(), melded.0 > 5);
+    assert_eq!(raw::meld(pool, record), melded);
+    lent.same(pool);
+    melded
 }
 
-/// `refresh`: the answer.
+/// `refresh`: the answer. What is given is the front of the output.
 pub fn refresh(pool: &[u8], original: &[u8], output: &mut Vec<u8>) -> u8 {
     let (mut lent, mut named, mut filled) = (bytes(pool), bytes(original), bytes(output));
-    let answer = calls::refresh(lent.lent(), named.lent(), filled.lent());
+    let said = Pool::from_bytes(lent.lent()).refresh(named.lent(), filled.lent());
+    let answer = number(&said);
+    let given = said.map(<[u8]>::to_vec);
     lent.same(pool);
     named.same(original);
-    *output = filled.back();
+    assert_eq!(raw::refresh(pool, original, output), answer);
+    filled.same(output);
+    if let Ok(given) = given {
+        assert_eq!(given, output[..original.len()]);
+    }
     answer
 }
 
-/// `in_force`: whether the part is in `refreshed`, and the part.
-pub fn in_force(answer: u8, original: &[u8], refreshed: &[u8]) -> (bool, Vec<u8>) {
-    let (mut one, mut other) = (bytes(original), bytes(refreshed));
-    let (mut offset, mut length) = (size(), size());
-    let found = calls::in_force(
-        answer,
-        one.lent(),
-        other.lent(),
-        &mut offset.lent()[0],
-        &mut length.lent()[0],
-    );
-    one.same(original);
-    other.same(refreshed);
-    assert_eq!(offset.number(), 0);
-    let from = if found { refreshed } else { original };
-    (found, from[..place(length.number())].to_vec())
+/// `in_force` after a refresh that left this output: whether the part is in the output,
+/// and the part.
+pub fn in_force(answer: u8, original: &[u8], output: &[u8]) -> (bool, Vec<u8>) {
+    let refreshed = match Error::from_number(answer) {
+        None => Ok(output),
+        Some(error) => Err(error),
+    };
+    let part = emuparasol::in_force(refreshed, original);
+    assert_ne!(part, Some(&[][..]));
+    let (found, raw_part) = raw::in_force(answer, original, output);
+    assert_eq!(part.unwrap_or_default(), raw_part);
+    if let Some(part) = part {
+        let from = if found { output } else { original };
+        assert_eq!(part.as_ptr(), from.as_ptr());
+    }
+    (found, raw_part)
 }
 
 /// `check`: the answer.
 pub fn check(record: &[u8]) -> u8 {
     let mut lent = bytes(record);
-    let answer = calls::check(lent.lent());
+    let answer = number(&emuparasol::check(lent.lent()));
     lent.same(record);
+    assert_eq!(raw::check(record), answer);
     answer
-}
-
-/// The lists of a reader or a writer.
-#[derive(Clone, Debug, PartialEq, Eq)]
-pub struct Lists {
-    pub kinds: Vec<u8>,
-    pub keys: Vec<u32>,
-    pub payloads: Vec<u64>,
-    pub lows: Vec<u32>,
-    pub highs: Vec<u32>,
-}
-
-/// `read` into these lists: the answer, the snapshot, the points, the scans.
-pub fn read(record: &[u8], lists: &mut Lists) -> (u8, u32, usize, usize) {
-    let mut named = bytes(record);
-    let (mut kinds, mut keys) = (bytes(&lists.kinds), words(&lists.keys));
-    let mut payloads = longs(&lists.payloads);
-    let (mut lows, mut highs) = (words(&lists.lows), words(&lists.highs));
-    let (mut snapshot, mut points, mut scans) = (words(&[80]), size(), size());
-    let answer = calls::read(
-        named.lent(),
-        kinds.lent(),
-        keys.lent(),
-        payloads.lent(),
-        lows.lent(),
-        highs.lent(),
-        &mut snapshot.lent()[0],
-        &mut points.lent()[0],
-        &mut scans.lent()[0],
-    );
-    named.same(record);
-    *lists = Lists {
-        kinds: kinds.back(),
-        keys: keys.back(),
-        payloads: payloads.back(),
-        lows: lows.back(),
-        highs: highs.back(),
-    };
-    (
-        answer,
-        snapshot.number(),
-        place(points.number()),
-        place(scans.number()),
-    )
-}
-
-/// `write` from these lists: the answer and the size.
-pub fn write(snapshot: u32, lists: &Lists, output: &mut Vec<u8>) -> (u8, usize) {
-    let (mut kinds, mut keys) = (bytes(&lists.kinds), words(&lists.keys));
-    let mut payloads = longs(&lists.payloads);
-    let (mut lows, mut highs) = (words(&lists.lows), words(&lists.highs));
-    let (mut filled, mut written) = (bytes(output), size());
-    let answer = calls::write(
-        snapshot,
-        kinds.lent(),
-        keys.lent(),
-        payloads.lent(),
-        lows.lent(),
-        highs.lent(),
-        filled.lent(),
-        &mut written.lent()[0],
-    );
-    kinds.same(&lists.kinds);
-    keys.same(&lists.keys);
-    payloads.same(&lists.payloads);
-    lows.same(&lists.lows);
-    highs.same(&lists.highs);
-    *output = filled.back();
-    (answer, place(written.number()))
 }
 
 /// `cut`: the answer and the next place.
 pub fn cut(log: &[u8], from: usize) -> (u8, usize) {
-    let (mut lent, mut next) = (bytes(log), size());
-    let answer = calls::cut(lent.lent(), from as u64, &mut next.lent()[0]);
+    let mut lent = bytes(log);
+    let mut records = Records::at(lent.lent(), from);
+    let said = records.next();
+    let found = match said {
+        Some(Ok(record)) => {
+            assert_eq!(record, &log[from..records.place()]);
+            assert!(!record.is_empty());
+            0
+        }
+        None => 0,
+        Some(Err(broken)) => {
+            assert_eq!(broken.place, from);
+            10
+        }
+    };
+    let found = (found, records.place());
+    if !matches!(said, Some(Ok(_))) {
+        assert_eq!((records.next(), records.next()), (None, None));
+    }
     lent.same(log);
-    (answer, place(next.number()))
+    assert_eq!(raw::cut(log, from), found);
+    found
+}
+
+/// A point of the reference's as one of the crate's.
+pub fn point(point: &reference::Point) -> Point {
+    let key = point.key;
+    match point.kind {
+        Kind::Read => Point::Read { key },
+        Kind::Put(payload) => Point::Put { key, payload },
+        Kind::Delete => Point::Delete { key },
+    }
+}
+
+/// Does the crate's record say what the reference's does?
+pub fn same_record(one: &Record<'_>, other: &reference::Record) -> bool {
+    let points: Vec<Point> = other.points.iter().map(point).collect();
+    let scans: Vec<Scan> = other.scans.iter().map(scan).collect();
+    *one == Record {
+        snapshot: other.snapshot,
+        points: &points,
+        scans: &scans,
+    }
+}
+
+/// A scan of the reference's as one of the crate's.
+pub fn scan(&reference::Scan { low, high }: &reference::Scan) -> Scan {
+    Scan { low, high }
+}
+
+/// `Record::write` into so much room: the answer, and the whole output. A refusal
+/// leaves the output as it was, and what is given is its front.
+pub fn write(record: &Record<'_>, room: usize) -> (u8, Vec<u8>) {
+    let mut filled = bytes(&vec![0xC3; room]);
+    let said = record.write(filled.lent());
+    let (answer, given) = (number(&said), said.map(<[u8]>::to_vec));
+    let output = filled.back();
+    match given {
+        Ok(given) => {
+            assert_eq!(given, output[..given.len()]);
+            let rest = &output[given.len()..];
+            assert!(rest.iter().all(|&byte| byte == 0xC3));
+        }
+        Err(_) => assert_eq!(output, vec![0xC3; room]),
+    }
+    (answer, output)
+}
+
+/// A buffer that holds the fullest record: 64 points and 8 scans, no number 0.
+pub fn full_buffer() -> RecordBuffer {
+    let points: Vec<Point> = (1..=64).map(|key| Point::put(key, u64::MAX)).collect();
+    let scans: Vec<Scan> = (1..=8).map(|low| Scan { low, high: low }).collect();
+    let record = Record {
+        snapshot: 77,
+        points: &points,
+        scans: &scans,
+    };
+    let mut output = [0; MOST_RECORD];
+    let mut buffer = RecordBuffer::new();
+    let written = record.write(&mut output).expect("room for any record");
+    assert_eq!(written.len(), MOST_RECORD);
+    assert_eq!(buffer.read(written), Ok(record));
+    buffer
 }
 
 /// A new pool for these limits, in bytes that were anything before.
@@ -244,6 +300,10 @@ pub fn means(pool: &[u8], state: &State) {
     assert_eq!(meant.limits(), state.limits());
     assert_eq!(meant.position(), state.position());
     assert_eq!(meant.kept(), state.kept());
+    let told = state.status();
+    let (n, z) = (told.limits.n(), told.limits.z());
+    let numbers = [n, z, told.position, told.kept, told.tombstones];
+    assert_eq!(status(pool), (0, numbers));
 }
 
 /// Melds one record into the pool and into the state, and compares answer, looks

@@ -1,0 +1,312 @@
+//! Records: points, scans, and the bytes of R4.
+
+use crate::answer::{done, front, Error};
+use crate::calls;
+
+/// The bytes of the shortest record.
+pub const LEAST_RECORD: usize = 9;
+/// The bytes of the longest record.
+pub const MOST_RECORD: usize = 905;
+/// The most points that a record can have.
+pub const MOST_POINTS: usize = 64;
+/// The most scans that a record can have.
+pub const MOST_SCANS: usize = 8;
+
+/// A key, and what a record does with it (R5).
+#[derive(Clone, Copy, Debug, PartialEq, Eq, Hash)]
+pub enum Point {
+    /// The key was looked at, whether or not anything was found under it.
+    Read {
+        /// The key.
+        key: u32,
+    },
+    /// The payload is put under the key.
+    Put {
+        /// The key.
+        key: u32,
+        /// What is put.
+        payload: u64,
+    },
+    /// The key is deleted, whether or not anything was under it.
+    Delete {
+        /// The key.
+        key: u32,
+    },
+}
+
+impl Point {
+    /// A read of this key.
+    pub const fn read(key: u32) -> Point {
+        Point::Read { key }
+    }
+
+    /// A put of this payload under this key.
+    pub const fn put(key: u32, payload: u64) -> Point {
+        Point::Put { key, payload }
+    }
+
+    /// A delete of this key.
+    pub const fn delete(key: u32) -> Point {
+        Point::Delete { key }
+    }
+
+    /// Its key.
+    pub const fn key(self) -> u32 {
+        match self {
+            Point::Read { key } | Point::Put { key, .. } | Point::Delete { key } => key,
+        }
+    }
+
+    /// What it puts; none if it is a read or a delete.
+    pub const fn payload(self) -> Option<u64> {
+        match self {
+            Point::Put { payload, .. } => Some(payload),
+            Point::Read { .. } | Point::Delete { .. } => None,
+        }
+    }
+
+    /// Kind, key and payload, as the lists of R10 have them.
+    const fn listed(self) -> (u8, u32, u64) {
+        match self {
+            Point::Read { key } => (1, key, 0),
+            Point::Put { key, payload } => (2, key, payload),
+            Point::Delete { key } => (3, key, 0),
+        }
+    }
+
+    /// The point that the lists have; none if there is no such kind.
+    const fn of_lists(kind: u8, key: u32, payload: u64) -> Option<Point> {
+        match kind {
+            1 => Some(Point::Read { key }),
+            2 => Some(Point::Put { key, payload }),
+            3 => Some(Point::Delete { key }),
+            _ => None,
+        }
+    }
+}
+
+/// A range of keys that a record has looked through, both ends included.
+#[derive(Clone, Copy, Debug, PartialEq, Eq, Hash)]
+pub struct Scan {
+    /// The least key of the range.
+    pub low: u32,
+    /// The largest key of the range, at least `low`.
+    pub high: u32,
+}
+
+/// A record: what one transaction has read and writes, and up to where it had seen
+/// the log.
+///
+/// The keys of the points rise, and so do the scans, without a key in common; a
+/// record that breaks this, or has more than 64 points or 8 scans, is malformed. A
+/// list that was gathered in another order is put in order by
+/// `points.sort_unstable_by_key(|point| point.key())`.
+///
+/// ```
+/// use emuparasol::{Error, Point, Record, RecordBuffer, Scan, MOST_RECORD};
+///
+/// let record = Record {
+///     snapshot: 1,
+///     points: &[Point::read(10), Point::put(30, 300), Point::delete(40)],
+///     scans: &[Scan { low: 11, high: 19 }],
+/// };
+/// let mut output = [0; MOST_RECORD];
+/// let bytes = record.write(&mut output)?;
+/// assert_eq!(bytes.len(), 9 + 5 + 13 + 5 + 8);
+///
+/// let mut buffer = RecordBuffer::new();
+/// assert_eq!(buffer.read(bytes)?, record);
+/// # Ok::<(), Error>(())
+/// ```
+#[derive(Clone, Copy, Debug, Default, PartialEq, Eq, Hash)]
+pub struct Record<'a> {
+    /// The position up to which the transaction had seen the log.
+    pub snapshot: u32,
+    /// At most 64, by rising key.
+    pub points: &'a [Point],
+    /// At most 8, rising, without a key in common.
+    pub scans: &'a [Scan],
+}
+
+impl Record<'_> {
+    /// Writes the record's bytes to the front of the output and gives them; the rest
+    /// of the output is as it was. [`MOST_RECORD`] bytes are always enough.
+    ///
+    /// # Errors
+    /// [`Error::Malformed`] if the points or scans break a rule; else
+    /// [`Error::OutputShort`] if the output is shorter than the record. The output
+    /// is then as it was.
+    ///
+    /// ```
+    /// use emuparasol::{Error, Point, Record};
+    ///
+    /// let twice = [Point::read(7), Point::put(7, 1)];
+    /// let record = Record { points: &twice, ..Record::default() };
+    /// assert_eq!(record.write(&mut [0; 100]), Err(Error::Malformed));
+    ///
+    /// let record = Record { points: &twice[..1], ..Record::default() };
+    /// assert_eq!(record.write(&mut [0; 13]), Err(Error::OutputShort));
+    /// assert_eq!(record.write(&mut [0; 14])?.len(), 14);
+    /// # Ok::<(), Error>(())
+    /// ```
+    pub fn write<'o>(&self, output: &'o mut [u8]) -> Result<&'o [u8], Error> {
+        let mut lists = Lists::EMPTY;
+        let lent = lists.lent(self.points.len(), self.scans.len());
+        // More than the lists have room for is more than a record can have.
+        let lent = lent.ok_or(Error::Malformed)?;
+        let places = lent.kinds.iter_mut().zip(lent.keys.iter_mut());
+        let places = places.zip(lent.payloads.iter_mut());
+        for (((kind, key), payload), point) in places.zip(self.points) {
+            (*kind, *key, *payload) = point.listed();
+        }
+        let places = lent.lows.iter_mut().zip(lent.highs.iter_mut());
+        for ((low, high), scan) in places.zip(self.scans) {
+            (*low, *high) = (scan.low, scan.high);
+        }
+        let mut size = 0;
+        done(calls::write(
+            self.snapshot,
+            lent.kinds,
+            lent.keys,
+            lent.payloads,
+            lent.lows,
+            lent.highs,
+            output,
+            &mut size,
+        ))?;
+        front(output, size)
+    }
+}
+
+/// Room for any one record that is read: 64 points and 8 scans, no heap.
+///
+/// ```
+/// use emuparasol::{Error, RecordBuffer};
+///
+/// let mut buffer = RecordBuffer::new();
+/// let bytes = [0, 12, 1, 0, 0, 0, 1, 1, 0, 1, 0, 0, 0, 30];
+/// let record = buffer.read(&bytes)?;
+/// assert_eq!(record.snapshot, 1);
+/// assert_eq!(record.points.iter().map(|point| point.key()).next(), Some(30));
+/// assert_eq!(buffer.read(&bytes[1..]), Err(Error::Malformed));
+/// # Ok::<(), Error>(())
+/// ```
+#[derive(Clone, Debug)]
+pub struct RecordBuffer {
+    snapshot: u32,
+    points: [Point; MOST_POINTS],
+    point_count: u64,
+    scans: [Scan; MOST_SCANS],
+    scan_count: u64,
+}
+
+impl RecordBuffer {
+    /// A buffer that holds the empty record with snapshot 0.
+    pub const fn new() -> RecordBuffer {
+        RecordBuffer {
+            snapshot: 0,
+            points: [Point::read(0); MOST_POINTS],
+            point_count: 0,
+            scans: [Scan { low: 0, high: 0 }; MOST_SCANS],
+            scan_count: 0,
+        }
+    }
+
+    /// Takes the bytes of a record apart and gives what they say.
+    ///
+    /// # Errors
+    /// [`Error::Malformed`] if the bytes are no well-formed record; the buffer then
+    /// holds what it held.
+    pub fn read(&mut self, record: &[u8]) -> Result<Record<'_>, Error> {
+        let mut lists = Lists::EMPTY;
+        let (mut snapshot, mut point_count, mut scan_count) = (0, 0, 0);
+        done(calls::read(
+            record,
+            &mut lists.kinds,
+            &mut lists.keys,
+            &mut lists.payloads,
+            &mut lists.lows,
+            &mut lists.highs,
+            &mut snapshot,
+            &mut point_count,
+            &mut scan_count,
+        ))?;
+        let kinds = front(&lists.kinds, point_count)?;
+        let lows = front(&lists.lows, scan_count)?;
+        (self.point_count, self.scan_count) = (0, 0);
+        let listed = kinds.iter().zip(&lists.keys).zip(&lists.payloads);
+        for (point, ((&kind, &key), &payload)) in self.points.iter_mut().zip(listed) {
+            *point = Point::of_lists(kind, key, payload).ok_or(Error::Unknown(0))?;
+        }
+        let listed = lows.iter().zip(&lists.highs);
+        for (scan, (&low, &high)) in self.scans.iter_mut().zip(listed) {
+            *scan = Scan { low, high };
+        }
+        self.snapshot = snapshot;
+        self.point_count = point_count;
+        self.scan_count = scan_count;
+        Ok(self.record())
+    }
+
+    /// What was read last.
+    pub fn record(&self) -> Record<'_> {
+        Record {
+            snapshot: self.snapshot,
+            points: front(&self.points, self.point_count).unwrap_or_default(),
+            scans: front(&self.scans, self.scan_count).unwrap_or_default(),
+        }
+    }
+}
+
+impl Default for RecordBuffer {
+    fn default() -> RecordBuffer {
+        RecordBuffer::new()
+    }
+}
+
+/// Are these bytes exactly one well-formed record (R9)?
+///
+/// # Errors
+/// [`Error::Malformed`] if they are not.
+pub fn check(record: &[u8]) -> Result<(), Error> {
+    done(calls::check(record))
+}
+
+/// The lists of R10, with room for the longest record.
+struct Lists {
+    kinds: [u8; MOST_POINTS],
+    keys: [u32; MOST_POINTS],
+    payloads: [u64; MOST_POINTS],
+    lows: [u32; MOST_SCANS],
+    highs: [u32; MOST_SCANS],
+}
+
+/// The fronts of such lists.
+struct Lent<'a> {
+    kinds: &'a mut [u8],
+    keys: &'a mut [u32],
+    payloads: &'a mut [u64],
+    lows: &'a mut [u32],
+    highs: &'a mut [u32],
+}
+
+impl Lists {
+    const EMPTY: Lists = Lists {
+        kinds: [0; MOST_POINTS],
+        keys: [0; MOST_POINTS],
+        payloads: [0; MOST_POINTS],
+        lows: [0; MOST_SCANS],
+        highs: [0; MOST_SCANS],
+    };
+
+    /// Their fronts for so many points and scans; none if there is no room.
+    fn lent(&mut self, points: usize, scans: usize) -> Option<Lent<'_>> {
+        Some(Lent {
+            kinds: self.kinds.get_mut(..points)?,
+            keys: self.keys.get_mut(..points)?,
+            payloads: self.payloads.get_mut(..points)?,
+            lows: self.lows.get_mut(..scans)?,
+            highs: self.highs.get_mut(..scans)?,
+        })
+    }
+}

@@ -1,0 +1,132 @@
+//! The program of R41 (docs/RULES.md) as firmware is written: `no_std`, no heap, all
+//! memory of fixed size. N and Z and a log come in on standard input; a line goes out
+//! for each record, then `end` or `10`; only `9` for bad limits.
+//!
+//! Along the way each record is taken apart and written again, refreshed and looked
+//! up; where anything is not as it must be, a line `DIFFERS` goes out.
+//!
+//! What a panic would call is not there to be linked. So the program is built (with
+//! `--release`) only if nothing in it can panic: neither here nor in the crate. With
+//! the feature `panics` it is not.
+#![no_std]
+#![no_main]
+
+mod system;
+
+use emuparasol::{
+    check, in_force, pool_bytes, Error, Limits, Point, Pool, Record, RecordBuffer, Records,
+    Verdict, LEAST_RECORD, MOST_RECORD,
+};
+use system::{read_all, say, say_number};
+
+/// The largest N of the program.
+const MOST_N: u32 = 1_000;
+/// The longest input.
+const MOST_INPUT: usize = 1 << 20;
+
+/// The number in four bytes, most significant first.
+fn word(bytes: &[u8; 4]) -> u32 {
+    u32::from_be_bytes(*bytes)
+}
+
+/// The limits and the log of an input.
+fn split(input: &[u8]) -> Option<(Limits, &[u8])> {
+    #[cfg(feature = "panics")]
+    let input = &input[1..];
+    let (n, rest) = input.split_first_chunk()?;
+    let (z, log) = rest.split_first_chunk()?;
+    let (n, z) = (word(n), word(z));
+    (n <= MOST_N).then_some((Limits { n, z }, log))
+}
+
+/// Is the record, if it is well formed, written again as the same bytes?
+fn there_and_back(bytes: &[u8], buffer: &mut RecordBuffer) -> bool {
+    let mut output = [0; MOST_RECORD];
+    match buffer.read(bytes) {
+        Ok(record) => check(bytes).is_ok() && record.write(&mut output) == Ok(bytes),
+        Err(error) => check(bytes) == Err(error) && error == Error::Malformed,
+    }
+}
+
+/// Does a refresh before the meld agree with its verdict (R38)?
+fn refreshed_alike<B: AsRef<[u8]>>(pool: &Pool<B>, bytes: &[u8], verdict: Verdict) -> bool {
+    let mut output = [0; MOST_RECORD];
+    let refreshed = pool.refresh(bytes, &mut output);
+    let appended = in_force(refreshed, bytes).is_some();
+    match verdict {
+        // Refresh does not ask for room.
+        Verdict::Committed | Verdict::NoRoom => refreshed.is_ok() && appended,
+        refused => {
+            let ahead = refused == Verdict::Ahead;
+            refused.committed() == refreshed.map(|_| ()) && appended == ahead
+        }
+    }
+}
+
+/// After a commit at this position, is each write of the record seen (R28)?
+fn stored<B: AsRef<[u8]>>(pool: &Pool<B>, record: Record<'_>, position: u32) -> bool {
+    let seen = |point: &Point| match (*point, pool.lookup(point.key())) {
+        (Point::Read { .. }, found) => found.is_ok(),
+        (Point::Delete { .. }, found) => found == Ok(None),
+        (Point::Put { payload, .. }, Ok(Some(found))) => {
+            found.payload == payload && found.position == position
+        }
+        (Point::Put { .. }, _) => false,
+    };
+    record.points.iter().all(seen)
+}
+
+/// Melds a log into a new pool in these bytes, and says a line for each record.
+fn meld_log(bytes: &mut [u8], limits: Limits, log: &[u8]) -> Result<(), Error> {
+    let mut pool = Pool::create(bytes, limits)?;
+    let mut before = [0; pool_bytes(MOST_N)];
+    let mut buffer = RecordBuffer::new();
+    for part in Records::new(log) {
+        let part = part?;
+        // A copy of the pool as it was, to be asked after the verdict is known.
+        for (to, from) in before.iter_mut().zip(pool.as_bytes()) {
+            *to = *from;
+        }
+        let before = before.get(..pool_bytes(limits.n)).unwrap_or_default();
+        let melded = pool.meld(part)?;
+        let status = pool.status()?;
+        say_number(status.position);
+        say(" ");
+        say_number(melded.verdict.number().into());
+        say(" ");
+        say_number(melded.looks);
+        say("\n");
+        let committed = melded.verdict == Verdict::Committed;
+        let right = there_and_back(part, &mut buffer)
+            && part.len() >= LEAST_RECORD
+            && status.limits == limits
+            && status.tombstones <= status.kept
+            && status.kept <= limits.n
+            && refreshed_alike(&Pool::from_bytes(before), part, melded.verdict)
+            && (!committed || stored(&pool, buffer.record(), status.position));
+        if !right {
+            say("DIFFERS\n");
+        }
+    }
+    Ok(())
+}
+
+/// What the C library's start-up code calls.
+#[no_mangle]
+extern "C" fn main() -> i32 {
+    let mut input = [0; MOST_INPUT];
+    let mut bytes = [0; pool_bytes(MOST_N)];
+    let said = match split(read_all(&mut input)) {
+        Some((limits, log)) => match bytes.get_mut(..pool_bytes(limits.n)) {
+            Some(bytes) => meld_log(bytes, limits, log),
+            None => Err(Error::BadLimits),
+        },
+        None => Err(Error::BadLimits),
+    };
+    match said {
+        Ok(()) => say("end"),
+        Err(error) => say_number(error.number().into()),
+    }
+    say("\n");
+    0
+}
