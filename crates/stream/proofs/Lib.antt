@@ -1,0 +1,4 @@
+pub mod Moves
+pub mod Telling
+pub mod Turning
+pub mod Running
