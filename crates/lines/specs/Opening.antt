@@ -40,6 +40,14 @@ pub record Opens (most : ℕ) (m head : List ℕ) (r : Asked) (m′ : List ℕ) 
   pub refused : (Asks most head (length m) → ⊥) → (r ≡ record { answer = badLimits; size = 0 }) × (m′ ≡ m)
   pub within : r .size ≤ length m′
 
+-- the limits are there and within their ranges, for a program's largest N (R41, R46, R2)
+pub record InRange (most : ℕ) (head : List ℕ) : Type 0 where
+  pub eight : 8 ≤ length head
+  pub least-n : 1 ≤ limitN head
+  pub most-n : limitN head ≤ most
+  pub least-z : 1 ≤ limitZ head
+  pub most-z : limitZ head ≤ 4096
+
 -- a pool just created for N and Z, out of any bytes (R18)
 pub record New (m : List ℕ) : Type 0 where
   pub N : ℕ

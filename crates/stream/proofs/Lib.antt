@@ -2,3 +2,4 @@ pub mod Moves
 pub mod Telling
 pub mod Turning
 pub mod Running
+pub mod Closings

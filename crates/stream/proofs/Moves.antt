@@ -1,14 +1,14 @@
 -- Moving bytes to the front one by one: each store makes the buffer with one byte more moved out of the buffer with so many moved. The byte that
 -- is read has not been written over, since it stands further back.
 -- Assumes nothing.
-use Prim.Native.Nat.{ℕ, suc, _+_, _-_, _≤_, _<_}
+use Prim.Native.Nat.{ℕ, suc, _+_, _-_, _<_}
 use mathlib.Core.Path.{_≡_, refl, sym, ap, _∙_}
-use mathlib.Core.List.{List, [], _∷_, _++_}
+use mathlib.Core.List.{List, _++_}
 use native.Mathlib.Omega.{arith}
 use native.Mathlib.Numerals.{add-one}
-use lib.ListN.{length, take, drop, getD, set, length-append, length-take, length-drop}
+use lib.ListN.{length, take, drop, getD, set, length-drop}
 use lib.Seq.{length-take-le, getD-append-add, getD-drop, drop-cons, set-at, append-snoc, take-suc}
-use Rattle.stream.specs.Buffer.{restInFront, RestKept}
+use Rattle.stream.specs.Buffer.{RestKept}
 
 -- the buffer with so many bytes moved
 pub moved : ℕ → ℕ → List ℕ → List ℕ

@@ -1,10 +1,10 @@
 -- The three ways in which a run of the program ends, each as the promise (specs/Runs.antt).
 -- Assumes nothing.
-use Prim.Native.Nat.{ℕ, _≤_}
+use Prim.Native.Nat.{ℕ}
 use mathlib.Core.Path.{_≡_, refl}
 use mathlib.Core.Bool.{true, false}
 use mathlib.Core.List.{List, _++_}
-use lib.ListN.{length, take, drop, replicate}
+use lib.ListN.{take, drop, replicate}
 use Rattle.lines.specs.declared.opening.Asked.{Asked}
 use Rattle.lines.specs.Opening.{Opens}
 use Rattle.stream.specs.declared.closing.Ending.{Ending}

@@ -12,7 +12,7 @@ use Rattle.log.specs.Log.{cutAt, CutIs}
 use Rattle.stream.specs.declared.closing.Ending.{Ending}
 use Rattle.stream.specs.declared.closing.Ending.the-variants.{Log, Unread}
 use Rattle.stream.specs.declared.turns.Progress.{Progress}
-use Rattle.stream.specs.Turns.{TurnIs, atFirst, Turns, none-yet, one-more, endingOf, Streamed}
+use Rattle.stream.specs.Turns.{TurnIs, Turns, none-yet, one-more, endingOf, Streamed}
 
 -- some turns were made, and so many are left
 pub record Turned (m b : List ℕ) (held position : ℕ) (more failed : Bool) (left : ℕ) (m′ b′ : List ℕ) : Type 0 where
