@@ -1,5 +1,6 @@
 /* The program of R41 (docs/RULES.md) in C, over the library: N and Z, four bytes each, big-endian, and a log on standard input; a line for each
-   record with position, answer and looks, then `end` or `10`; only `9` for bad limits, N above 1,000 or fewer than eight bytes. */
+   record with position, answer and looks, then `end` or `10`; only `9` for bad limits, N above 1,000 or fewer than eight bytes; nothing where standard
+   input cannot be read to its end. */
 #include <stdio.h>
 #include <stdlib.h>
 
@@ -14,22 +15,24 @@ static uint32_t word_at(const uint8_t *bytes) {
     return (uint32_t)bytes[0] << 24 | (uint32_t)bytes[1] << 16 | (uint32_t)bytes[2] << 8 | bytes[3];
 }
 
-/* All of standard input; its length is left in *length. NULL if there is no memory for it. */
+/* All of standard input; its length is left in *length. NULL if there is no memory for it, or if reading fails. */
 static uint8_t *read_all(uint64_t *length) {
     uint8_t *bytes = NULL;
     *length = 0;
     for (;;) {
         uint8_t *larger = realloc(bytes, (size_t)*length + CHUNK);
-        if (larger == NULL) {
-            free(bytes);
-            return NULL;
-        }
+        if (larger == NULL)
+            break;
         bytes = larger;
         size_t got = fread(bytes + *length, 1, CHUNK, stdin);
+        if (ferror(stdin))
+            break;
         if (got == 0)
             return bytes;
         *length += got;
     }
+    free(bytes);
+    return NULL;
 }
 
 /* Melds every record of the log into the pool, and prints a line for each and one for the ending. */

@@ -3,7 +3,6 @@
 use libc::STDIN_FILENO;
 use libc::STDOUT_FILENO;
 use lines::HEAD;
-use lines::POOL;
 use lines::Taken;
 use lines::meld_whole;
 use lines::open;
@@ -13,6 +12,11 @@ use record::Answer;
 use words::word4;
 ghost use Rattle.lines.specs.Opening.{New};
 ghost use Rattle.lines.specs.Lines.{LogMelded};
+
+// The largest N, as in `verdicts`, and the bytes of a pool for it.
+const MOST_KEYS: u32 = 1000;
+
+const POOL: usize = 64064;
 
 // Prints the line that opens a case.
 fn print_case(number: u64) {
@@ -32,7 +36,7 @@ fn meld_log(pool: &mut [u8], log: &[u8]) -> Taken
 // Prints the lines of one input.
 fn print_verdicts(input: &[u8]) {
     let mut pool = [0u8; POOL];
-    let asked = open(&mut pool, input);
+    let asked = open(&mut pool, input, MOST_KEYS);
     let answer = asked.answer;
     let size = asked.size;
     if answer.number != Answer::COMMITTED.number {

@@ -1,2 +1,3 @@
 pub mod Openings
+pub mod Limits
 pub mod Fronts

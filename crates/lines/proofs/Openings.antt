@@ -15,13 +15,13 @@ use Rattle.lines.specs.declared.opening.Asked.{Asked}
 use Rattle.lines.specs.Opening.{limitN, limitZ, sizeFor, Asks, Makes, Opens, New}
 
 -- 9, and no byte changed
-pub refuses : (m head : List ℕ) → (Asks head (length m) → ⊥) → Opens m head (record { answer = badLimits; size = 0 }) m
-refuses m head none = record { asked = λ a. absurd (none a); refused = λ _. (refl, refl); within = omega arith }
+pub refuses : (most : ℕ) (m head : List ℕ) → (Asks most head (length m) → ⊥) → Opens most m head (record { answer = badLimits; size = 0 }) m
+refuses most m head none = record { asked = λ a. absurd (none a); refused = λ _. (refl, refl); within = omega arith }
 
 -- the front is what `create` made of it
-pub makes : (m head front : List ℕ) (n z size : ℕ) (a : Answer) → n ≡ limitN head → z ≡ limitZ head → size ≡ sizeFor n → Asks head (length m) → size ≤ length m
-    → Created (take size m) n z a front → length (front ++ drop size m) ≡ length m → Opens m head (record { answer = a; size = size }) (front ++ drop size m)
-makes m head front n z size a en ez es asks fits made long =
+pub makes : (most : ℕ) (m head front : List ℕ) (n z size : ℕ) (a : Answer) → n ≡ limitN head → z ≡ limitZ head → size ≡ sizeFor n → Asks most head (length m) → size ≤ length m
+    → Created (take size m) n z a front → length (front ++ drop size m) ≡ length m → Opens most m head (record { answer = a; size = size }) (front ++ drop size m)
+makes most m head front n z size a en ez es asks fits made long =
     record {
       asked = λ _. subst (λ (k : ℕ). Makes m k (limitZ head) r m′) en (subst (λ (k : ℕ). Makes m n k r m′) ez whole);
       refused = λ none. absurd (none asks);
@@ -49,13 +49,13 @@ makes m head front n z size a en ez es asks fits made long =
 
 -- WHERE OPENING ANSWERS 0
 
-module _ (m head : List ℕ) (r : Asked) (m′ : List ℕ) (o : Opens m head r m′) (zero : r .answer .number ≡ 0) where
+module _ (most : ℕ) (m head : List ℕ) (r : Asked) (m′ : List ℕ) (o : Opens most m head r m′) (zero : r .answer .number ≡ 0) where
   -- the input asks for a pool that a program makes
-  pub opened-asks : Asks head (length m)
+  pub opened-asks : Asks most head (length m)
   opened-asks =
       elim (decLe 8 (length head)) [
         | yes e ↦
-            elim (decLe (limitN head) 1000) [
+            elim (decLe (limitN head) most) [
               | yes f ↦
                   elim (decLe (sizeFor (limitN head)) (length m)) [
                     | yes g ↦ record { eight = e; few = f; fits = g }
@@ -66,7 +66,7 @@ module _ (m head : List ℕ) (r : Asked) (m′ : List ℕ) (o : Opens m head r m
         | no e ↦ nine λ a. e (a .eight)
       ]
     where
-      nine : (Asks head (length m) → ⊥) → Asks head (length m)
+      nine : (Asks most head (length m) → ⊥) → Asks most head (length m)
       nine none = let n : r .answer .number ≡ 9 = ap (λ (x : Asked). x .answer .number) (o .refused none .0) in absurd (omega arith)
 
   -- and the pool at the front is new

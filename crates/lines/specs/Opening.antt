@@ -1,4 +1,4 @@
--- Opening an input: its first eight bytes are the limits, and the pool for them is created at the front of the bytes lent (R41, R18).
+-- Opening an input: its first eight bytes are the limits, and the pool for them is created at the front of the bytes lent (R41, R46, R18).
 -- Assumes nothing: these are definitions.
 use Prim.Native.Nat.{ℕ, _+_, _*_, _≤_}
 use mathlib.Core.Path.{_≡_}
@@ -21,10 +21,11 @@ limitZ head = word 4 head 4
 abbrev pub sizeFor : ℕ → ℕ
 sizeFor N = 64 + 64 * N
 
--- an input asks for a pool that a program makes: it has eight bytes, its N is at most 1,000 (R41), and the bytes lent are enough
-pub record Asks (head : List ℕ) (room : ℕ) : Type 0 where
+-- an input asks for a pool that a program makes: it has eight bytes, its N is at most the program's largest (R41, R46), and the bytes lent
+-- are enough
+pub record Asks (most : ℕ) (head : List ℕ) (room : ℕ) : Type 0 where
   pub eight : 8 ≤ length head
-  pub few : limitN head ≤ 1000
+  pub few : limitN head ≤ most
   pub fits : sizeFor (limitN head) ≤ room
 
 -- the front of the bytes lent, as many as a pool for N has, is what `create` makes of it, with its answer; the bytes behind are kept
@@ -33,11 +34,19 @@ pub record Makes (m : List ℕ) (N Z : ℕ) (r : Asked) (m′ : List ℕ) : Type
   pub created : Created (take (sizeFor N) m) N Z (r .answer) (take (sizeFor N) m′)
   pub behind : drop (sizeFor N) m′ ≡ drop (sizeFor N) m
 
--- what opening promises of the bytes lent m, an input's first bytes, the answer and the bytes m′ left behind
-pub record Opens (m head : List ℕ) (r : Asked) (m′ : List ℕ) : Type 0 where
-  pub asked : Asks head (length m) → Makes m (limitN head) (limitZ head) r m′
-  pub refused : (Asks head (length m) → ⊥) → (r ≡ record { answer = badLimits; size = 0 }) × (m′ ≡ m)
+-- what opening promises of a program's largest N, the bytes lent m, an input's first bytes, the answer and the bytes m′ left behind
+pub record Opens (most : ℕ) (m head : List ℕ) (r : Asked) (m′ : List ℕ) : Type 0 where
+  pub asked : Asks most head (length m) → Makes m (limitN head) (limitZ head) r m′
+  pub refused : (Asks most head (length m) → ⊥) → (r ≡ record { answer = badLimits; size = 0 }) × (m′ ≡ m)
   pub within : r .size ≤ length m′
+
+-- the limits are there and within their ranges, for a program's largest N (R41, R46, R2)
+pub record InRange (most : ℕ) (head : List ℕ) : Type 0 where
+  pub eight : 8 ≤ length head
+  pub least-n : 1 ≤ limitN head
+  pub most-n : limitN head ≤ most
+  pub least-z : 1 ≤ limitZ head
+  pub most-z : limitZ head ≤ 4096
 
 -- a pool just created for N and Z, out of any bytes (R18)
 pub record New (m : List ℕ) : Type 0 where

@@ -6,7 +6,6 @@ pub mod whole;
 
 pub use opening::Asked;
 pub use opening::HEAD;
-pub use opening::POOL;
 pub use opening::open;
 pub use printing::Line;
 pub use printing::print_answer;

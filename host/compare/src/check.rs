@@ -1,6 +1,6 @@
 //! The comparison of a program's lines with the reference's.
 
-use reference::program;
+use crate::setting::Setting;
 
 /// A program: an input to what it prints, or why it prints nothing.
 pub type Program<'a> = dyn Fn(&[u8]) -> Result<String, String> + Sync + 'a;
@@ -17,8 +17,8 @@ pub struct Difference {
 }
 
 /// The first difference between the program and the reference on this input.
-pub fn difference(program: &Program<'_>, input: &[u8]) -> Option<Difference> {
-    let expected = program::lines(input);
+pub fn difference(setting: Setting, program: &Program<'_>, input: &[u8]) -> Option<Difference> {
+    let expected = setting.lines(input);
     match program(input) {
         Ok(found) => first_difference(&expected, &found),
         Err(found) => Some(Difference {

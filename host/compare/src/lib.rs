@@ -7,4 +7,5 @@ pub mod generate;
 pub mod mistaken;
 pub mod options;
 pub mod process;
+pub mod setting;
 pub mod shrink;

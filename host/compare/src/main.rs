@@ -14,9 +14,10 @@ use std::thread;
 
 use compare::check::{difference, Program};
 use compare::options::{parse, Task, USAGE};
-use compare::{generate, process, shrink};
+use compare::setting::Setting;
+use compare::shrink;
 use reference::program;
-use reference::words::{hex, input_words};
+use reference::words::{hex, input_words_up_to};
 
 fn main() -> ExitCode {
     let arguments: Vec<String> = std::env::args().skip(1).collect();
@@ -25,8 +26,9 @@ fn main() -> ExitCode {
             program,
             seeds,
             jobs,
-        }) => compare(&program, seeds, jobs),
-        Some(Task::Input(seed)) => match io::stdout().write_all(&generate::input(seed)) {
+            setting,
+        }) => compare(setting, &program, seeds, jobs),
+        Some(Task::Input(setting, seed)) => match io::stdout().write_all(&setting.input(seed)) {
             Ok(()) => ExitCode::SUCCESS,
             Err(_) => ExitCode::FAILURE,
         },
@@ -41,14 +43,14 @@ fn main() -> ExitCode {
 type Tally = BTreeMap<String, u64>;
 
 /// Compares on all seeds; status 1 at a difference.
-fn compare(path: &Path, seeds: Range<u64>, jobs: usize) -> ExitCode {
+fn compare(setting: Setting, path: &Path, seeds: Range<u64>, jobs: usize) -> ExitCode {
     let Ok(path) = path.canonicalize() else {
         eprintln!("compare: no program at {}", path.display());
         return ExitCode::from(2);
     };
     println!("seeds {}..{}", seeds.start, seeds.end);
-    let program = |input: &[u8]| process::output(&path, input);
-    let (differing, tally) = first_differing(&program, seeds.clone(), jobs);
+    let program = |input: &[u8]| setting.output(&path, input);
+    let (differing, tally) = first_differing(setting, &program, seeds.clone(), jobs);
     let Some(seed) = differing else {
         for (what, count) in tally {
             println!("{count:>8} {what}");
@@ -59,12 +61,17 @@ fn compare(path: &Path, seeds: Range<u64>, jobs: usize) -> ExitCode {
         );
         return ExitCode::SUCCESS;
     };
-    report(&program, seed);
+    report(setting, &program, seed);
     ExitCode::FAILURE
 }
 
 /// The lowest differing seed that was found, and what the logs before it had.
-fn first_differing(program: &Program<'_>, seeds: Range<u64>, jobs: usize) -> (Option<u64>, Tally) {
+fn first_differing(
+    setting: Setting,
+    program: &Program<'_>,
+    seeds: Range<u64>,
+    jobs: usize,
+) -> (Option<u64>, Tally) {
     let next = AtomicU64::new(seeds.start);
     let stop = AtomicBool::new(false);
     let found = Mutex::new((None, Tally::new()));
@@ -75,13 +82,13 @@ fn first_differing(program: &Program<'_>, seeds: Range<u64>, jobs: usize) -> (Op
             if seed >= seeds.end {
                 break;
             }
-            let input = generate::input(seed);
-            if difference(program, &input).is_some() {
+            let input = setting.input(seed);
+            if difference(setting, program, &input).is_some() {
                 stop.store(true, Ordering::Relaxed);
                 let mut found = found.lock().expect("no thread panics");
                 found.0 = Some(found.0.map_or(seed, |other: u64| other.min(seed)));
             }
-            count(&input, &mut tally);
+            count(setting, &input, &mut tally);
         }
         let mut found = found.lock().expect("no thread panics");
         for (what, count) in tally {
@@ -97,16 +104,18 @@ fn first_differing(program: &Program<'_>, seeds: Range<u64>, jobs: usize) -> (Op
 }
 
 /// Counts the answers of a log and how it ends.
-fn count(input: &[u8], tally: &mut Tally) {
+fn count(setting: Setting, input: &[u8], tally: &mut Tally) {
     let mut add = |what: String| *tally.entry(what).or_default() += 1;
-    match program::run(input) {
+    match program::run_up_to(setting.most(), input) {
         Err(answer) => add(format!("logs {} {}", answer.number(), answer.name())),
         Ok(run) => {
             for verdict in run.verdicts {
                 let answer = verdict.answer;
                 add(format!("records {} {}", answer.number(), answer.name()));
             }
-            add(if run.ended {
+            add(if setting.unread {
+                "logs unread"
+            } else if run.ended {
                 "logs end"
             } else {
                 "logs 10 broken log"
@@ -117,11 +126,11 @@ fn count(input: &[u8], tally: &mut Tally) {
 }
 
 /// The seed, the smallest log found that differs, and where it differs.
-fn report(program: &Program<'_>, seed: u64) {
-    let input = generate::input(seed);
+fn report(setting: Setting, program: &Program<'_>, seed: u64) {
+    let input = setting.input(seed);
     println!("seed {seed} differs; looking for a small log");
-    let mut differs = |smaller: &[u8]| difference(program, smaller).is_some();
-    let small = shrink::shrink(&input, &mut differs);
+    let mut differs = |smaller: &[u8]| difference(setting, program, smaller).is_some();
+    let small = shrink::shrink(setting.most(), &input, &mut differs);
     println!(
         "the input in hex, {} bytes of {}:",
         small.len(),
@@ -129,8 +138,8 @@ fn report(program: &Program<'_>, seed: u64) {
     );
     println!("{}", hex(&small));
     println!("in words, with the answers of the reference:");
-    print!("{}", input_words(&small));
-    match difference(program, &small) {
+    print!("{}", input_words_up_to(setting.most(), &small));
+    match difference(setting, program, &small) {
         Some(found) => {
             println!("line {} is to be {}", found.line, found.expected);
             println!("the program has  {}", found.found);

@@ -5,15 +5,19 @@ use std::path::PathBuf;
 use std::thread;
 use std::time::{SystemTime, UNIX_EPOCH};
 
+use crate::setting::Setting;
+
 /// What to say when the command line is not understood.
 pub const USAGE: &str = "\
-usage: compare --program PATH [--seeds FROM..TO | --fresh N] [--jobs J]
-       compare --input SEED
+usage: compare --program PATH [--seeds FROM..TO | --fresh N] [--jobs J] [--full] [--unread]
+       compare --input SEED [--full]
 
 --program PATH    the program to compare with the reference
 --seeds FROM..TO  seeds FROM to TO - 1 (default 0..2000)
 --fresh N         N seeds from the clock; they are printed
 --jobs J          so many programs at a time (default: one for each core)
+--full            the program at full size (R46), with pools above 1,000 keys
+--unread          reading fails where the input's bytes are over
 --input SEED      write the input of a seed to standard output instead";
 
 /// What is asked for.
@@ -27,9 +31,11 @@ pub enum Task {
         seeds: Range<u64>,
         /// How many at a time.
         jobs: usize,
+        /// What is compared.
+        setting: Setting,
     },
     /// Write the input of a seed.
-    Input(u64),
+    Input(Setting, u64),
 }
 
 /// The task of these arguments; none if they are not understood.
@@ -38,16 +44,17 @@ pub fn parse(arguments: &[String]) -> Option<Task> {
     let mut seeds = 0..2_000;
     let mut jobs = thread::available_parallelism().map_or(1, usize::from);
     let mut input = None;
-    for pair in arguments.chunks(2) {
-        let [option, value] = pair else {
-            return None;
-        };
+    let mut setting = Setting::default();
+    let mut words = arguments.iter();
+    while let Some(option) = words.next() {
         match option.as_str() {
-            "--program" => program = Some(PathBuf::from(value)),
-            "--seeds" => seeds = range(value)?,
-            "--fresh" => seeds = fresh(value.parse().ok()?),
-            "--jobs" => jobs = value.parse().ok().filter(|&jobs| jobs > 0)?,
-            "--input" => input = Some(value.parse().ok()?),
+            "--full" => setting.full = true,
+            "--unread" => setting.unread = true,
+            "--program" => program = Some(PathBuf::from(words.next()?)),
+            "--seeds" => seeds = range(words.next()?)?,
+            "--fresh" => seeds = fresh(words.next()?.parse().ok()?),
+            "--jobs" => jobs = words.next()?.parse().ok().filter(|&jobs| jobs > 0)?,
+            "--input" => input = Some(words.next()?.parse().ok()?),
             _ => return None,
         }
     }
@@ -56,8 +63,9 @@ pub fn parse(arguments: &[String]) -> Option<Task> {
             program,
             seeds,
             jobs,
+            setting,
         }),
-        (None, Some(seed)) => Some(Task::Input(seed)),
+        (None, Some(seed)) => Some(Task::Input(setting, seed)),
         _ => None,
     }
 }
@@ -78,6 +86,7 @@ fn fresh(count: u64) -> Range<u64> {
 #[cfg(test)]
 mod tests {
     use super::{parse, Task};
+    use crate::setting::Setting;
 
     fn arguments(line: &str) -> Option<Task> {
         let words: Vec<String> = line.split_whitespace().map(str::to_string).collect();
@@ -90,12 +99,23 @@ mod tests {
             program,
             seeds,
             jobs,
-        }) = arguments("--program p --seeds 3..9 --jobs 2")
+            setting,
+        }) = arguments("--program p --full --seeds 3..9 --jobs 2")
         else {
             panic!("not understood");
         };
         assert_eq!((program.to_str(), seeds, jobs), (Some("p"), 3..9, 2));
-        assert_eq!(arguments("--input 7"), Some(Task::Input(7)));
+        assert_eq!((setting.full, setting.unread), (true, false));
+        let setting = Setting::default();
+        assert_eq!(arguments("--input 7"), Some(Task::Input(setting, 7)));
+        let unread = Setting {
+            unread: true,
+            ..setting
+        };
+        assert_eq!(
+            arguments("--unread --input 7"),
+            Some(Task::Input(unread, 7))
+        );
     }
 
     #[test]

@@ -1,6 +1,8 @@
 //! A program run on one input: fed on standard input, its output captured.
 
 use std::io::{Read, Write};
+use std::os::fd::OwnedFd;
+use std::os::unix::net::UnixStream;
 use std::path::Path;
 use std::process::{Child, Command, ExitStatus, Stdio};
 use std::sync::mpsc;
@@ -15,13 +17,39 @@ const PATIENCE: Duration = Duration::from_secs(30);
 /// The exit status of a program that ends by itself is not looked at, since
 /// R41 gives none.
 pub fn output(program: &Path, input: &[u8]) -> Result<String, String> {
+    let mut child = started(program, Stdio::piped())?;
+    let stdin = child.stdin.take().expect("standard input is piped");
+    printed(&mut child, stdin, input)
+}
+
+/// The same where reading fails behind the input's bytes: a socket holds them
+/// all, its other end stays open, and a read does not wait for more.
+pub fn output_unread(program: &Path, input: &[u8]) -> Result<String, String> {
+    let (mut ours, theirs) = UnixStream::pair().map_err(|error| error.to_string())?;
+    let filled = ours
+        .set_nonblocking(true)
+        .and(theirs.set_nonblocking(true))
+        .and(ours.write_all(input));
+    filled.map_err(|error| format!("a socket does not hold the input: {error}"))?;
+    let mut child = started(program, Stdio::from(OwnedFd::from(theirs)))?;
+    let output = printed(&mut child, std::io::sink(), &[]);
+    drop(ours);
+    output
+}
+
+/// The program, started on this standard input.
+fn started(program: &Path, stdin: Stdio) -> Result<Child, String> {
     let child = Command::new(program)
-        .stdin(Stdio::piped())
+        .stdin(stdin)
         .stdout(Stdio::piped())
         .stderr(Stdio::null())
         .spawn();
-    let mut child = child.map_err(|error| format!("{}: {error}", program.display()))?;
-    let (bytes, status) = feed(&mut child, input)?;
+    child.map_err(|error| format!("{}: {error}", program.display()))
+}
+
+/// What the program prints while the input is written.
+fn printed(child: &mut Child, stdin: impl Write + Send, input: &[u8]) -> Result<String, String> {
+    let (bytes, status) = feed(child, stdin, input)?;
     match status.code() {
         Some(_) => Ok(String::from_utf8_lossy(&bytes).into_owned()),
         None => Err(format!("ended by a signal: {status}")),
@@ -30,8 +58,11 @@ pub fn output(program: &Path, input: &[u8]) -> Result<String, String> {
 
 /// Writes the input while reading the output, so that neither side waits for
 /// ever; ends the program when patience does.
-fn feed(child: &mut Child, input: &[u8]) -> Result<(Vec<u8>, ExitStatus), String> {
-    let mut stdin = child.stdin.take().expect("standard input is piped");
+fn feed(
+    child: &mut Child,
+    mut stdin: impl Write + Send,
+    input: &[u8],
+) -> Result<(Vec<u8>, ExitStatus), String> {
     let mut stdout = child.stdout.take().expect("standard output is piped");
     let (sender, receiver) = mpsc::channel();
     thread::scope(|scope| {

@@ -3,7 +3,7 @@
 //! until nothing more can go.
 
 use reference::log::parts;
-use reference::program::split;
+use reference::program::split_up_to;
 use reference::record::{with_length, LEAST_LENGTH};
 use reference::Record;
 
@@ -31,9 +31,10 @@ struct Search<'a> {
     tries: usize,
 }
 
-/// The smallest input found that still differs. `input` itself must differ.
-pub fn shrink(input: &[u8], differs: &mut dyn FnMut(&[u8]) -> bool) -> Vec<u8> {
-    let Ok((_, log)) = split(input) else {
+/// The smallest input found that still differs, for a program that takes N up
+/// to `most`. `input` itself must differ.
+pub fn shrink(most: u32, input: &[u8], differs: &mut dyn FnMut(&[u8]) -> bool) -> Vec<u8> {
+    let Ok((_, log)) = split_up_to(most, input) else {
         let front = &input[..input.len().min(8)];
         return if differs(front) { front } else { input }.to_vec();
     };

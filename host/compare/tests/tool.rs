@@ -46,3 +46,21 @@ fn a_missing_program_or_option_has_status_2() {
         assert_eq!(compare(None, arguments).status.code(), Some(2));
     }
 }
+
+#[test]
+fn a_program_that_stops_at_1000_differs_from_the_full_one() {
+    let arguments = [&PROGRAM[..], &["--full", "--seeds", "1..20"]].concat();
+    let output = compare(None, &arguments);
+    assert_eq!(output.status.code(), Some(1));
+    let text = String::from_utf8(output.stdout).unwrap();
+    assert!(text.contains("the program has  `9`"), "{text}");
+}
+
+#[test]
+fn a_program_that_prints_nothing_of_an_input_it_cannot_read_on_differs() {
+    let arguments = [&PROGRAM[..], &["--unread", "--seeds", "0..20"]].concat();
+    let output = compare(None, &arguments);
+    assert_eq!(output.status.code(), Some(1));
+    let text = String::from_utf8(output.stdout).unwrap();
+    assert!(text.contains("the program has  ``"), "{text}");
+}

@@ -1,25 +1,27 @@
 //! The program of R41 by the reference: standard input is N and Z and a
-//! log, standard output the lines. `reference words` prints the same input in
-//! hex and in words instead.
+//! log, standard output the lines. `reference full` is that of R46. `reference
+//! words` prints the same input in hex and in words instead.
 #![forbid(unsafe_code)]
 
 use std::io::{self, Read, Write};
 use std::process::ExitCode;
 
-use reference::{program, words};
+use reference::program::{self, FULL_N, MOST_N};
+use reference::words;
 
 fn main() -> ExitCode {
     let arguments: Vec<String> = std::env::args().skip(1).collect();
-    let answer: fn(&[u8]) -> String =
-        match arguments.iter().map(String::as_str).collect::<Vec<_>>()[..] {
-            [] => program::lines,
-            ["words"] => words::input_words,
-            _ => {
-                eprintln!("usage: reference [words] < INPUT");
-                return ExitCode::from(2);
-            }
-        };
-    match answer_input(answer) {
+    let done = match arguments.iter().map(String::as_str).collect::<Vec<_>>()[..] {
+        [] => print_lines(MOST_N),
+        ["full"] => print_lines(FULL_N),
+        ["words"] => print_words(MOST_N),
+        ["words", "full"] => print_words(FULL_N),
+        _ => {
+            eprintln!("usage: reference [words] [full] < INPUT");
+            return ExitCode::from(2);
+        }
+    };
+    match done {
         Ok(()) => ExitCode::SUCCESS,
         Err(error) => {
             eprintln!("reference: {error}");
@@ -28,9 +30,23 @@ fn main() -> ExitCode {
     }
 }
 
-/// Reads standard input whole and prints the answer to it.
-fn answer_input(answer: fn(&[u8]) -> String) -> io::Result<()> {
+/// Reads standard input whole and prints the program's lines, those of the
+/// records alone where reading fails.
+fn print_lines(most: u32) -> io::Result<()> {
+    let mut input = Vec::new();
+    match io::stdin().lock().read_to_end(&mut input) {
+        Ok(_) => print(&program::lines_up_to(most, &input)),
+        Err(error) => print(&program::lines_unread(most, &input)).and(Err(error)),
+    }
+}
+
+/// Reads standard input whole and prints it in words.
+fn print_words(most: u32) -> io::Result<()> {
     let mut input = Vec::new();
     io::stdin().lock().read_to_end(&mut input)?;
-    io::stdout().lock().write_all(answer(&input).as_bytes())
+    print(&words::input_words_up_to(most, &input))
+}
+
+fn print(text: &str) -> io::Result<()> {
+    io::stdout().lock().write_all(text.as_bytes())
 }

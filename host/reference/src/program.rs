@@ -1,11 +1,14 @@
-//! The program of R41: limits and a log in, a line a record out.
+//! The program of R41, and R46's for larger N: limits and a log in, a line a record out.
 
 use crate::answer::Answer;
 use crate::log::{LogReader, Step};
 use crate::state::{Limits, State, Verdict};
 
-/// The largest N the program takes.
+/// The largest N that the program of R41 takes.
 pub const MOST_N: u32 = 1_000;
+
+/// The largest N that the program at full size takes (R46).
+pub const FULL_N: u32 = 65_536;
 
 /// A whole run over a log.
 #[derive(Clone, Debug)]
@@ -21,10 +24,15 @@ pub struct Run {
 /// The limits and the log of an input; bad limits for N or Z outside its range,
 /// N above 1,000 or fewer than 8 bytes.
 pub fn split(input: &[u8]) -> Result<(Limits, &[u8]), Answer> {
+    split_up_to(MOST_N, input)
+}
+
+/// The same for N up to `most`.
+pub fn split_up_to(most: u32, input: &[u8]) -> Result<(Limits, &[u8]), Answer> {
     let (n, rest) = input.split_first_chunk::<4>().ok_or(Answer::BadLimits)?;
     let (z, log) = rest.split_first_chunk::<4>().ok_or(Answer::BadLimits)?;
     let (n, z) = (u32::from_be_bytes(*n), u32::from_be_bytes(*z));
-    if n > MOST_N {
+    if n > most {
         return Err(Answer::BadLimits);
     }
     Ok((Limits::new(n, z)?, log))
@@ -37,7 +45,12 @@ pub fn join(n: u32, z: u32, log: &[u8]) -> Vec<u8> {
 
 /// Melds every record of the input's log.
 pub fn run(input: &[u8]) -> Result<Run, Answer> {
-    let (limits, log) = split(input)?;
+    run_up_to(MOST_N, input)
+}
+
+/// The same for N up to `most`.
+pub fn run_up_to(most: u32, input: &[u8]) -> Result<Run, Answer> {
+    let (limits, log) = split_up_to(most, input)?;
     let mut state = State::new(limits);
     let mut verdicts = Vec::new();
     let mut reader = LogReader::new(log);
@@ -64,23 +77,36 @@ pub fn run(input: &[u8]) -> Result<Run, Answer> {
 
 /// Everything the program prints for an input.
 pub fn lines(input: &[u8]) -> String {
-    let run = match run(input) {
-        Ok(run) => run,
-        Err(answer) => return format!("{}\n", answer.number()),
-    };
-    let mut text = String::new();
-    for (index, verdict) in run.verdicts.iter().enumerate() {
-        text += &format!(
-            "{} {} {}\n",
-            index + 1,
-            verdict.answer.number(),
-            verdict.looks
-        );
+    lines_up_to(MOST_N, input)
+}
+
+/// The same for N up to `most`.
+pub fn lines_up_to(most: u32, input: &[u8]) -> String {
+    match run_up_to(most, input) {
+        Err(answer) => format!("{}\n", answer.number()),
+        Ok(run) if run.ended => record_lines(&run) + "end\n",
+        Ok(run) => format!("{}{}\n", record_lines(&run), Answer::BrokenLog.number()),
     }
-    if run.ended {
-        text += "end\n";
-    } else {
-        text += &format!("{}\n", Answer::BrokenLog.number());
+}
+
+/// What the program prints where its input can be read so far and no further:
+/// the lines of the records in it, and no closing line. Limits that were read and
+/// are bad end it before that.
+pub fn lines_unread(most: u32, input: &[u8]) -> String {
+    match run_up_to(most, input) {
+        Err(_) if input.len() < 8 => String::new(),
+        Err(answer) => format!("{}\n", answer.number()),
+        Ok(run) => record_lines(&run),
     }
-    text
+}
+
+/// A line for each record.
+fn record_lines(run: &Run) -> String {
+    let verdicts = run.verdicts.iter().enumerate();
+    verdicts
+        .map(|(index, verdict)| {
+            let (answer, looks) = (verdict.answer.number(), verdict.looks);
+            format!("{} {answer} {looks}\n", index + 1)
+        })
+        .collect()
 }

@@ -1,7 +1,7 @@
 //! An input in hex and in words, with the verdicts, for people to read.
 
 use crate::log::parts;
-use crate::program::{run, split};
+use crate::program::{run_up_to, split_up_to, MOST_N};
 use crate::record::{Kind, Record};
 
 /// Bytes as pairs of hex digits with single spaces.
@@ -35,7 +35,12 @@ pub fn record_words(bytes: &[u8]) -> String {
 
 /// A whole input: limits, each record with its verdict, and what is at the end.
 pub fn input_words(input: &[u8]) -> String {
-    let (Ok((limits, log)), Ok(run)) = (split(input), run(input)) else {
+    input_words_up_to(MOST_N, input)
+}
+
+/// The same for N up to `most`.
+pub fn input_words_up_to(most: u32, input: &[u8]) -> String {
+    let (Ok((limits, log)), Ok(run)) = (split_up_to(most, input), run_up_to(most, input)) else {
         return format!("bad limits\n    {}\n", hex(input));
     };
     let mut text = format!(

@@ -1,6 +1,6 @@
 //! The eleven rows of R44, two of their byte strings, edges and easy mistakes.
 
-use reference::program::{join, lines, run};
+use reference::program::{join, lines, lines_unread, lines_up_to, run, FULL_N, MOST_N};
 use reference::table::{self, log, record, scanning};
 use reference::{Answer, Limits, Point, Record, State};
 
@@ -118,4 +118,30 @@ fn positions_used_up() {
     let before = state.clone();
     assert_eq!(state.meld(&last).answer, Answer::PositionsUsedUp);
     assert_eq!(state, before);
+}
+
+#[test]
+fn the_program_at_full_size_takes_65536_keys() {
+    for (n, line) in [
+        (0, "9\n"),
+        (1, "end\n"),
+        (1_000, "end\n"),
+        (1_001, "end\n"),
+        (65_536, "end\n"),
+        (65_537, "9\n"),
+    ] {
+        assert_eq!(lines_up_to(FULL_N, &join(n, 4, &[])), line);
+    }
+    assert_eq!(lines_up_to(FULL_N, &table::input()), lines(&table::input()));
+}
+
+#[test]
+fn an_input_that_cannot_be_read_on_has_no_closing_line() {
+    let whole = table::input();
+    let records = lines(&whole).replace("end\n", "");
+    assert_eq!(lines_unread(MOST_N, &whole), records);
+    assert_eq!(lines_unread(MOST_N, &whole[..50]), "1 0 0\n");
+    assert_eq!(lines_unread(MOST_N, &whole[..8]), "");
+    assert_eq!(lines_unread(MOST_N, &whole[..7]), "");
+    assert_eq!(lines_unread(MOST_N, &join(0, 4, &[])), "9\n");
 }

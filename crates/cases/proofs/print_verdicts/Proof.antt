@@ -27,16 +27,16 @@ slice-aggregate-meld-log : tie.Need-slice-aggregate-meld-log
 slice-aggregate-meld-log c = sym (length-take-le _ _ (omega (arith, c .before .before .before .before .before .before .«open» .ensures .within)))
 
 sub-meld-log : tie.Need-sub-meld-log
-sub-meld-log c = omega (arith, opened-asks _ _ _ _ (c .before .before .before .before .before .before .«open» .ensures) (search needs) .eight)
+sub-meld-log c = omega (arith, opened-asks _ _ _ _ _ (c .before .before .before .before .before .before .«open» .ensures) (search needs) .eight)
 
 part-meld-log-start : tie.Need-part-meld-log-start
-part-meld-log-start c = omega (arith, opened-asks _ _ _ _ (c .before .before .before .before .before .before .«open» .ensures) (search needs) .eight)
+part-meld-log-start c = omega (arith, opened-asks _ _ _ _ _ (c .before .before .before .before .before .before .«open» .ensures) (search needs) .eight)
 
 part-meld-log-end : tie.Need-part-meld-log-end
 part-meld-log-end c = search needs
 
 meld-log-requires : tie.Need-meld-log-requires
-meld-log-requires c κs = opened-new _ _ _ _ (c .before .before .before .before .before .before .before .«open» .ensures) (search needs)
+meld-log-requires c κs = opened-new _ _ _ _ _ (c .before .before .before .before .before .before .before .«open» .ensures) (search needs)
 
 print-ending-requires : tie.Need-print-ending-requires
 print-ending-requires c κs = search needs

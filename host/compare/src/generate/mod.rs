@@ -10,9 +10,10 @@ pub mod malformed;
 pub mod profile;
 pub mod record;
 
-use reference::program::join;
+use reference::program::{join, FULL_N};
 use reference::random::Random;
-use reference::{Limits, Record, State};
+use reference::record::MOST_POINTS;
+use reference::{Limits, Point, Record, State};
 
 use profile::Profile;
 
@@ -29,6 +30,47 @@ pub fn input(seed: u64) -> Vec<u8> {
         profile.z,
         &ending::perhaps_spoiled(log, &profile, &mut random),
     )
+}
+
+/// The input of a seed for the program at full size: pools above 1,000 keys. One
+/// seed in fifty fills the largest pool there is.
+pub fn full_input(seed: u64) -> Vec<u8> {
+    let mut random = Random::new(seed);
+    if seed % 50 == 0 {
+        return brimful(&mut random);
+    }
+    if random.percent(6) {
+        return ending::bad_start(&mut random);
+    }
+    let profile = Profile::large(&mut random);
+    let log = log(&profile, &mut random);
+    let log = ending::perhaps_spoiled(log, &profile, &mut random);
+    join(profile.n, profile.z, &log)
+}
+
+/// 65,536 keys, 64 a record; then one that is kept, one too many, one deleted,
+/// and the first again.
+fn brimful(random: &mut Random) -> Vec<u8> {
+    let step = random.pick(&[1, 3, 1_000, 65_535]);
+    let keys: Vec<u32> = (0..=FULL_N).map(|index| index.wrapping_mul(step)).collect();
+    let (kept, new) = keys.split_at(FULL_N as usize);
+    let puts = |keys: &[u32]| keys.iter().map(|&key| Point::put(key, 7)).collect();
+    let mut points: Vec<Vec<Point>> = kept.chunks(MOST_POINTS).map(puts).collect();
+    points.push(puts(&kept[..1]));
+    points.push(puts(new));
+    points.push(vec![Point::delete(kept[1])]);
+    points.push(vec![Point::read(kept[0]), Point::read(kept[1])]);
+    let record = |(index, points): (usize, Vec<Point>)| {
+        let (snapshot, scans) = (index as u32, Vec::new());
+        Record {
+            snapshot,
+            points,
+            scans,
+        }
+        .to_bytes()
+    };
+    let log: Vec<u8> = points.into_iter().enumerate().flat_map(record).collect();
+    join(FULL_N, random.between(1, 4_096), &log)
 }
 
 /// A log of the profile, made along the states it leads to.

@@ -125,6 +125,25 @@ impl Profile {
         }
     }
 
+    /// Pools of more keys than the program of R41 takes, the smaller ones filled.
+    pub fn large(random: &mut Random) -> Profile {
+        let n = random.pick(&[1_001, 1_002, 1_024, 2_000, 4_095, 16_384, 65_535, 65_536]);
+        let count = (n as usize * (50 + random.below(100)) / 100).min(9_000);
+        Profile {
+            n,
+            z: random.pick(&[1, 5, 30, 200, 4_096]),
+            records: 20 + random.below(60),
+            keys: universe(count, random),
+            points: 64,
+            puts: 75,
+            deletes: 15,
+            scans: 30,
+            current: 75,
+            full: 60,
+            ..Profile::tiny(random)
+        }
+    }
+
     /// Records of 64 and 65 points, 8 and 9 scans.
     fn fullest(random: &mut Random) -> Profile {
         let n = random.pick(&[63, 64, 65, 100, 300]);

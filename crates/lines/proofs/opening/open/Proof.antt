@@ -9,7 +9,7 @@ use Rattle.lines.proofs.opening.open.Statement.{statement}
 use Rattle.lines.proofs.opening.open.Tie as tie
 
 returns : tie.Need-returns
-returns c = refuses _ _ (λ a. omega (arith, a .eight))
+returns c = refuses _ _ _ (λ a. omega (arith, a .eight))
 
 word4-requires : tie.Need-word4-requires
 word4-requires c κs = search needs
@@ -18,13 +18,13 @@ word4-requires-2 : tie.Need-word4-requires-2
 word4-requires-2 c κs = search needs
 
 returns-2 : tie.Need-returns-2
-returns-2 c = refuses _ _ (λ a. omega (arith, a .few))
+returns-2 c = refuses _ _ _ (λ a. omega (arith, a .few))
 
 size-for-requires : tie.Need-size-for-requires
 size-for-requires c κs = search needs
 
 returns-3 : tie.Need-returns-3
-returns-3 c = refuses _ _ (λ a. omega (arith, a .fits))
+returns-3 c = refuses _ _ _ (λ a. omega (arith, a .fits))
 
 slice-relend-prefix-create : tie.Need-slice-relend-prefix-create
 slice-relend-prefix-create c = search needs
@@ -39,7 +39,7 @@ same-length : tie.Need-same-length
 same-length c = search needs
 
 returns-4 : tie.Need-returns-4
-returns-4 c = makes _ _ _ _ _ _ _ (c .before .before .before .before .before .before .before .before .word4 .ensures) (c .before .before .before .before .before .before .before .word42 .ensures) (c .before .before .before .before .before .size-for .ensures) (record { eight = omega arith; few = omega arith; fits = omega arith }) (omega arith) (c .before .before .create .ensures) (same-length c)
+returns-4 c = makes _ _ _ _ _ _ _ _ (c .before .before .before .before .before .before .before .before .word4 .ensures) (c .before .before .before .before .before .before .before .word42 .ensures) (c .before .before .before .before .before .size-for .ensures) (record { eight = omega arith; few = omega arith; fits = omega arith }) (omega arith) (c .before .before .create .ensures) (same-length c)
 
 pub open-spec : {M : Type 1} → statement M
 open-spec =

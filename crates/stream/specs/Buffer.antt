@@ -1,0 +1,50 @@
+-- The buffer between standard input and the log: bytes are read behind those held, and what was not taken moves to the front (R41).
+-- What a read brings is not said: no definition can speak of a program's input. What is made of the number that it answers is said.
+-- Assumes nothing: these are definitions.
+use Prim.Native.Nat.{ℕ, _+_, _-_, _≤_}
+use mathlib.Core.Path.{_≡_}
+use mathlib.Core.Bool.{Bool, true, false}
+use mathlib.Core.List.{List, _++_}
+use lib.IntN.{ℤ, pos, negsuc}
+use lib.ListN.{length, take, drop}
+use Rattle.io.specs.Counts.{clamped}
+use Rattle.stream.specs.declared.input.Filled.{Filled}
+
+-- a read failed: its answer is negative
+abbrev pub failedBy : ℤ → Bool
+failedBy (pos n) = false
+failedBy (negsuc n) = true
+
+-- what is told of a read's answer, for a buffer of a length with some bytes held: so many more are held, none where the read failed
+abbrev pub filledBy : ℤ → ℕ → ℕ → Filled
+filledBy got held size = record { held = held + clamped got (size - held); failed = failedBy got }
+
+-- after a read behind the bytes held: what is told is what the read answered, and the bytes of before are as they were
+pub record Refilled (held : ℕ) (before after : List ℕ) (r : Filled) : Type 0 where
+  pub as-long : length after ≡ length before
+  pub kept : take held after ≡ take held before
+  pub got : ℤ
+  pub told : r ≡ filledBy got held (length before)
+  pub least : held ≤ r .held
+  pub most : r .held ≤ length after
+
+-- reads one behind the other, each of which brought something: how many bytes are held by now
+pub data Reads (before : List ℕ) : ℕ → List ℕ → Type 0 where
+  none-yet : Reads before 0 before
+  one-more : {held : ℕ} {after after′ : List ℕ} {r : Filled}
+      → Reads before held after → Refilled held after after′ r → (r .held ≡ held → ⊥) → Reads before (r .held) after′
+
+-- reads until all bytes are held, and then none has failed; or until a read brought nothing, and then what is told of that read is told
+pub data FilledUp (before : List ℕ) : List ℕ → Filled → Type 0 where
+  full : {after : List ℕ} {held : ℕ} → Reads before held after → length before ≤ held → FilledUp before after (record { held = held; failed = false })
+  stopped : {held : ℕ} {after after′ : List ℕ} {r : Filled}
+      → Reads before held after → Refilled held after after′ r → r .held ≡ held → FilledUp before after′ r
+
+-- the buffer with the bytes from `taken` to `filled` at its front, and its other bytes as they were
+abbrev pub restInFront : ℕ → ℕ → List ℕ → List ℕ
+restInFront taken filled buffer = take (filled - taken) (drop taken buffer) ++ drop (filled - taken) buffer
+
+-- what was not taken is at the front, every byte of it once and in order, and the count is how many they are
+pub record RestKept (taken filled : ℕ) (before after : List ℕ) (r : ℕ) : Type 0 where
+  pub count : r ≡ filled - taken
+  pub bytes : after ≡ restInFront taken filled before

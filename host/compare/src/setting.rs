@@ -1,0 +1,86 @@
+//! What is compared: the program of R41 or that of R46, on inputs that end or on
+//! inputs whose reading fails.
+
+use std::path::Path;
+
+use reference::log::parts;
+use reference::program::{self, split_up_to, FULL_N, MOST_N};
+
+use crate::{generate, process};
+
+/// The most bytes of whole records in an input whose reading fails: a socket
+/// holds them all.
+const HELD: usize = 60_000;
+
+/// The most bytes behind them: a record and more, and less than a buffer.
+const TAIL: usize = 2_000;
+
+/// What is compared.
+#[derive(Clone, Copy, Debug, Default, PartialEq, Eq)]
+pub struct Setting {
+    /// Is it the program at full size?
+    pub full: bool,
+    /// Does reading fail where the input's bytes are over?
+    pub unread: bool,
+}
+
+impl Setting {
+    /// The largest N of the program.
+    pub fn most(self) -> u32 {
+        if self.full {
+            FULL_N
+        } else {
+            MOST_N
+        }
+    }
+
+    /// The input of a seed.
+    pub fn input(self, seed: u64) -> Vec<u8> {
+        let input = if self.full {
+            generate::full_input(seed)
+        } else {
+            generate::input(seed)
+        };
+        if self.unread {
+            self.held(&input)
+        } else {
+            input
+        }
+    }
+
+    /// What the reference prints.
+    pub fn lines(self, input: &[u8]) -> String {
+        if self.unread {
+            program::lines_unread(self.most(), input)
+        } else {
+            program::lines_up_to(self.most(), input)
+        }
+    }
+
+    /// What a program prints.
+    pub fn output(self, path: &Path, input: &[u8]) -> Result<String, String> {
+        if self.unread {
+            process::output_unread(path, input)
+        } else {
+            process::output(path, input)
+        }
+    }
+
+    /// The input cut down to what a socket holds, and behind its last record to
+    /// less than a buffer, so that the program has to read on.
+    fn held(self, input: &[u8]) -> Vec<u8> {
+        let Ok((_, log)) = split_up_to(self.most(), input) else {
+            return input.to_vec();
+        };
+        let (found, tail) = parts(log);
+        let mut bytes = input[..8].to_vec();
+        for part in &found {
+            if bytes.len() + part.len() > HELD {
+                return bytes;
+            }
+            bytes.extend_from_slice(part);
+        }
+        bytes.extend_from_slice(&tail[..tail.len().min(TAIL)]);
+        bytes
+    }
+}
