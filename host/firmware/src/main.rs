@@ -1,6 +1,7 @@
 //! The program of R41 (docs/RULES.md) as firmware is written: `no_std`, no heap, all
 //! memory of fixed size. N and Z and a log come in on standard input; a line goes out
-//! for each record, then `end` or `10`; only `9` for bad limits.
+//! for each record, then `end` or `10`; only `9` for bad limits; nothing where the input
+//! cannot be read to its end, or is longer than there is room for.
 //!
 //! Along the way each record is taken apart and written again, refreshed and looked
 //! up; where anything is not as it must be, a line `DIFFERS` goes out.
@@ -116,7 +117,10 @@ fn meld_log(bytes: &mut [u8], limits: Limits, log: &[u8]) -> Result<(), Error> {
 extern "C" fn main() -> i32 {
     let mut input = [0; MOST_INPUT];
     let mut bytes = [0; pool_bytes(MOST_N)];
-    let said = match split(read_all(&mut input)) {
+    let Some(input) = read_all(&mut input) else {
+        return 1;
+    };
+    let said = match split(input) {
         Some((limits, log)) => match bytes.get_mut(..pool_bytes(limits.n)) {
             Some(bytes) => meld_log(bytes, limits, log),
             None => Err(Error::BadLimits),

@@ -22,18 +22,23 @@ fn panic(_: &PanicInfo<'_>) -> ! {
 #[no_mangle]
 extern "C" fn rust_eh_personality() {}
 
-/// Standard input, as far as there is room.
-pub fn read_all(room: &mut [u8]) -> &[u8] {
-    let mut filled = 0;
-    while let Some(rest) = room.get_mut(filled..) {
+/// All of standard input; none if a read fails, or if there is no room for more.
+pub fn read_all(room: &mut [u8]) -> Option<&[u8]> {
+    let mut filled: usize = 0;
+    loop {
+        let rest = room.get_mut(filled..)?;
+        if rest.is_empty() {
+            return None;
+        }
         // SAFETY: so many bytes may be written there.
         let got = unsafe { read(0, rest.as_mut_ptr().cast(), rest.len()) };
         match usize::try_from(got) {
-            Ok(got) if got > 0 => filled = filled.saturating_add(got),
-            _ => break,
+            Ok(0) => break,
+            Ok(got) => filled = filled.saturating_add(got),
+            Err(_) => return None,
         }
     }
-    room.get(..filled).unwrap_or_default()
+    room.get(..filled)
 }
 
 /// Writes a text to standard output.
