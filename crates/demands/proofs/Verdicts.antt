@@ -95,14 +95,17 @@ module _ (N Z : ℕ) (log : List ℕ) (lent : Bytes log) (parts : List (List ℕ
       let mean = past-means in
       lookup-case m k x h (mean .arrangement) (mean .image) ∙ ap (λ (S : State). lookupOf (lookup k S)) (mean .state) ∙ ap lookupOf (last-write N Z past past-well-formed k)
 
-  -- status tells the card's own limits, and as the position how many records it has melded, while positions last
-  pub status-on-bytes : (x : Status) → StatusIs m x → q ≤ lastPosition → (x .answer ≡ Names.committed) × (x .limit ≡ N) × (x .zone ≡ Z) × (x .position ≡ q)
-  status-on-bytes x h few =
-      let mean = past-means in
-      let e : x ≡ statusOf (after (fresh N Z) past) = h .fit (mean .arrangement) (mean .image) ∙ ap statusOf (mean .state) in
+  -- status tells the rules' state after them
+  pub status-on-bytes : (x : Status) → StatusIs m x → x ≡ statusOf (after (fresh N Z) (map parse (take q parts)))
+  status-on-bytes x h = let mean = past-means in h .fit (mean .arrangement) (mean .image) ∙ ap statusOf (mean .state)
+
+  -- so 0 and the card's own limits, and as the position how many records it has melded, while positions last
+  pub status-counts : (x : Status) → StatusIs m x → (x .answer ≡ Names.committed) × (x .limit ≡ N) × (x .zone ≡ Z) × (q ≤ lastPosition → x .position ≡ q)
+  status-counts x h =
+      let e = status-on-bytes x h in
       let so-many : length past ≡ q = length-map (take q parts) parse ∙ length-take-le q parts (omega (arith, pool-few N Z log lent parts last w at-q, length-map parts parse)) in (
         ap (λ (y : Status). y .answer) e,
         ap (λ (y : Status). y .limit) e ∙ after-N (fresh N Z) past,
         ap (λ (y : Status). y .zone) e ∙ after-Z (fresh N Z) past,
-        omega (arith, ap (λ (y : Status). y .position) e, after-p (fresh N Z) past (omega (arith, so-many, few)), so-many),
+        λ few. omega (arith, ap (λ (y : Status). y .position) e, after-p (fresh N Z) past (omega (arith, so-many, few)), so-many),
       )

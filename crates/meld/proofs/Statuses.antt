@@ -14,11 +14,12 @@ use Rattle.nodes.specs.declared.header.Header.{Header}
 use Rattle.nodes.specs.Nodes.{headerAt}
 use Rattle.rules.specs.Lists.{keep}
 use Rattle.rules.specs.State.{Entry, isLive}
-use Rattle.rules.proofs.Tests.{if-ind, le-or-lt}
+use Rattle.rules.proofs.Tests.{le-or-lt}
 use Rattle.pool.specs.Image.{Arrangement, Image, Fit, stateOf, headerOf}
 use Rattle.fit.specs.Whole.{Decides}
 use Rattle.drop.specs.Old.{old}
 use Rattle.drop.specs.Spot.{UpTo}
+use Rattle.drop.proofs.Olds.{old-few}
 use Rattle.meld.specs.declared.kept.Status.{Status}
 use Rattle.meld.specs.Statuses.{isTombstone, statusOf, noStatus, StatusIs}
 use Rattle.meld.proofs.Lookups.{now-fit, not-fit}
@@ -38,10 +39,6 @@ old-tombstone p e h = rw (le-leb (e .position) p h) (and-true (isTombstone e))
 all-old : (p : ℕ) (es : List Entry) → ((e : Entry) → Mem e es → e .position ≤ p) → keep (old p) es ≡ keep isTombstone es
 all-old p [] h = refl
 all-old p (e ∷ es) h = rw (old-tombstone p e (h e (here refl)), all-old p es (λ d i. h d (there i)))
-
-keep-few : (f : Entry → Bool) (es : List Entry) → length (keep f es) ≤ length es
-keep-few f [] = omega arith
-keep-few f (e ∷ es) = if-ind (λ (l : List Entry). length l ≤ length (e ∷ es)) (f e) (λ _. omega (arith, keep-few f es)) (λ _. omega (arith, keep-few f es))
 
 -- counted up to as many as there may be, they are all counted
 counted-all : (most k r : ℕ) → k ≤ most → UpTo most k r → r ≡ k
@@ -75,6 +72,6 @@ fit-status m f h eh n u = record { fit = at; unfit = λ no. absurd (no f) }
         let p : h .position ≡ A .p = ap (λ (x : Header). x .position) e in
         let es = stateOf A .kept in
         let a : keep (old (h .position)) es ≡ keep isTombstone es = all-old (h .position) es (λ d x. omega (arith, p, i .arranged .lawful .positions d x)) in
-        let c : length (keep (old (h .position)) es) ≤ h .limit = omega (arith, keep-few (old (h .position)) es, i .arranged .lawful .few, l) in
+        let c : length (keep (old (h .position)) es) ≤ h .limit = omega (arith, old-few (h .position) es, i .arranged .lawful .few, l) in
         let t : n ≡ length (keep isTombstone es) = counted-all (h .limit) (length (keep (old (h .position)) es)) n c (u A i) ∙ ap length a in
         λ j. record { answer = committed; limit = e j .limit; zone = e j .zone; position = e j .position; kept = e j .kept; tombstones = t j }
