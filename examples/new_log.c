@@ -5,7 +5,7 @@
 
 #include "stage.h"
 
-/* The last position; in a pool, the number of no node. */
+/* The last position. */
 static const uint32_t last = 4294967295u;
 
 static bool quiet;
@@ -73,14 +73,23 @@ static void carry(const uint8_t *pool, uint32_t node, struct carried *carried) {
     }
 }
 
-/* The new log, by the left card. On flash it is another area, taken into use in one step when it is whole. */
+/* The new log, by the left card. On flash it is another area, taken into use in one step when it is whole. Nothing is done if the pool is not what the
+   log says: only a fit pool is a tree that ends, and a fit one may still have a flipped bit, so it is held against the other card's. */
 static void begin_new_log(void) {
     struct carried carried = {.points = 0, .records = 0};
+    uint32_t n, z, position, kept, tombstones;
     flash_lock();
     card_catch_up(&left);
+    card_catch_up(&right);
+    if (emuparasol_status(left.pool, sizeof left.pool, &n, &z, &position, &kept, &tombstones) != EMUPARASOL_COMMITTED ||
+        memcmp(left.pool, right.pool, sizeof left.pool) != 0) {
+        flash_unlock();
+        printf("no new log: a pool is damaged\n");
+        return;
+    }
     flash_cut_off(0);
-    if (word(left.pool + 20) != last) /* the root; none if nothing is kept */
-        carry(left.pool, word(left.pool + 20), &carried);
+    if (kept > 0)
+        carry(left.pool, word(left.pool + 20), &carried); /* from the root */
     finish(&carried);
     flash_unlock();
     printf("a new log of %lu records\n", (unsigned long)carried.records);
@@ -115,6 +124,10 @@ int main(void) {
     submit(last, 1, 3001);
     both_catch_up();
     print_status();
+    /* A bit of a payload falls over on one card: both pools answer 0, and are not the same. */
+    left.pool[64 + 23] ^= 1;
+    begin_new_log();
+    left.pool[64 + 23] ^= 1;
     begin_new_log();
     card_start(&left);
     card_start(&right);
