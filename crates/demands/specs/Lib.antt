@@ -11,3 +11,4 @@ pub mod Looks
 pub mod TableLog
 pub mod ListsBack
 pub mod SomeRun
+pub mod Feeding
