@@ -2,3 +2,5 @@ pub mod Rows
 pub mod Fronts
 pub mod Decided
 pub mod Carries
+pub mod Progress
+pub mod Only
