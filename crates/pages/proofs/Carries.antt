@@ -22,11 +22,7 @@ use Rattle.pages.specs.Pages.{carrySize, impossible, mayCarry, bytesIn, 
 use Rattle.pages.specs.Pages.{FeedRow, wrongCarry, stuck, cannotGoOn, recordWhole, goesOn, atEnd, torn, FeedsAs, Feeds}
 use Rattle.pages.proofs.Rows.{row-facts, row-is, no-both, cannot-tells, cannot-is, can-tells, can-is, not-whole-tells, not-whole-is, may-tells, may-few, may-stuck, may-amid, may-split, may-join}
 use Rattle.pages.proofs.Fronts.{Such, held, length-in, length-take-two, length-append-two, length-front, record-size, record-fits, begun-fits}
-use Rattle.pages.proofs.Decided.{unfit-said, verdict-said, verdict-carry}
-
--- what a fed value says of what is carried
-carried-is : {r x : Fed} → r ≡ x → r .carried ≡ x .carried
-carried-is e = ap (λ (y : Fed). y .carried) e
+use Rattle.pages.proofs.Decided.{carried-is, unfit-said, verdict-said, verdict-carry}
 
 -- WHAT A CALL LEAVES MAY BE CARRIED
 

@@ -22,6 +22,16 @@ use Rattle.pages.specs.declared.told.Fed.{Fed}
 use Rattle.pages.specs.Pages.{recordIn, refusing, isUnfit, RecordDecided}
 use Rattle.pages.proofs.Rows.{no-both}
 
+-- what is given back, field by field
+pub happened-is : {r x : Fed} → r ≡ x → r .happened ≡ x .happened
+happened-is e = ap (λ (y : Fed). y .happened) e
+
+pub taken-is : {r x : Fed} → r ≡ x → r .taken ≡ x .taken
+taken-is e = ap (λ (y : Fed). y .taken) e
+
+pub carried-is : {r x : Fed} → r ≡ x → r .carried ≡ x .carried
+carried-is e = ap (λ (y : Fed). y .carried) e
+
 -- R23: no verdict is 7 or more
 pub below-seven : (v : Verdict) → verdictAnswer v .number < 7
 below-seven committed = omega arith

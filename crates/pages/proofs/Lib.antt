@@ -4,3 +4,4 @@ pub mod Decided
 pub mod Carries
 pub mod Progress
 pub mod Only
+pub mod Refusals

@@ -2,7 +2,7 @@
 -- unless it says 8, 7 or 10 (R49).
 -- Assumes nothing.
 use Prim.Native.Nat.{ℕ, _+_, _≤_}
-use mathlib.Core.Path.{_≡_, refl, ap}
+use mathlib.Core.Path.{_≡_, refl}
 use mathlib.Core.Logic.{_⊎_, inl, inr}
 use mathlib.Core.Bool.{Bool}
 use mathlib.Core.List.{List}
@@ -17,13 +17,7 @@ use Rattle.pages.specs.Pages.{bytesIn, feedRow, isUnfit}
 use Rattle.pages.specs.Pages.{FeedRow, wrongCarry, stuck, cannotGoOn, recordWhole, goesOn, atEnd, torn, FeedsAs, Feeds}
 use Rattle.pages.proofs.Rows.{row-facts, cannot-tells, whole-tells, may-split}
 use Rattle.pages.proofs.Fronts.{Such, record-goes-on}
-use Rattle.pages.proofs.Decided.{unfit-said, verdict-said}
-
-taken-is : {r x : Fed} → r ≡ x → r .taken ≡ x .taken
-taken-is e = ap (λ (y : Fed). y .taken) e
-
-happened-is : {r x : Fed} → r ≡ x → r .happened ≡ x .happened
-happened-is e = ap (λ (y : Fed). y .happened) e
+use Rattle.pages.proofs.Decided.{happened-is, taken-is, unfit-said, verdict-said}
 
 module _ {m carry : List ℕ} {carried : ℕ} {part : List ℕ} {over : Bool} {r : Fed} {m′ carry′ : List ℕ} (f : Feeds m carry carried part over r m′ carry′) where
   -- no more is in than was carried and is lent
