@@ -19,3 +19,5 @@ pub mod SomeRun
 pub mod LogFronts
 pub mod FedOn
 pub mod Feeding
+pub mod Parts
+pub mod SomeFeeding

@@ -5,3 +5,4 @@ pub mod Carries
 pub mod Progress
 pub mod Only
 pub mod Refusals
+pub mod CarryBytes
