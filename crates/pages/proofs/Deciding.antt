@@ -24,7 +24,7 @@ use Rattle.meld.proofs.Whole.{refuses, melds}
 use Rattle.pages.specs.declared.told.Fed.{Fed}
 use Rattle.pages.specs.Pages.{bytesIn, recordIn, refusing, isUnfit, fedBy, carryBy, RecordDecided}
 use Rattle.pages.specs.Steps.{decided}
-use Rattle.pages.proofs.Fronts.{length-in}
+use Rattle.pages.proofs.Stored.{length-in}
 
 -- meld answers 7 to no fit pool
 never-unfit : (v : Verdict) → eqb (verdictAnswer v .number) (unfitPool .number) ≡ false

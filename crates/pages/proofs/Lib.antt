@@ -1,5 +1,13 @@
-pub mod Lengths
+pub mod Rows
 pub mod Fronts
-pub mod Deciding
+pub mod Decided
+pub mod Carries
+pub mod Progress
+pub mod Only
+pub mod Refusals
+pub mod CarryBytes
+mod Lengths
+mod Stored
+mod Deciding
 mod Waiting
-pub mod Table
+mod Table

@@ -23,7 +23,7 @@ use Rattle.pages.specs.declared.told.Fed.{Fed}
 use Rattle.pages.specs.Pages.{impossible, bytesIn, cannotBe, wholeIn, FeedRow, wrongCarry, stuck, cannotGoOn, recordWhole, feedRow, undecided, refusing, RecordDecided, FeedsAs, Feeds}
 use Rattle.pages.specs.Steps.{sizedBy, begunIn, waitRow, LengthIn, KeepsLength, Complete}
 use Rattle.pages.proofs.Lengths.{allowed, length-carried}
-use Rattle.pages.proofs.Fronts.{length-in}
+use Rattle.pages.proofs.Stored.{length-in}
 
 -- TESTS
 

@@ -1,5 +1,5 @@
 -- `carry::put_behind` meets its contract. The invariant of its loop: the carry is what it was with the first i bytes of the part behind those
--- carried (Fronts.antt), and as long as it was.
+-- carried (Stored.antt), and as long as it was.
 -- Assumes nothing.
 use Prim.Native.Nat.{_+_, _-_, _≤_}
 use mathlib.Core.Path.{_≡_, refl, _∙_}
@@ -7,7 +7,7 @@ use native.Mathlib.Omega.{arith}
 use denote.Ref.{now}
 use lib.ListN.{length, length-set}
 use lib.Seq.{paste, paste-zero}
-use Rattle.pages.proofs.Fronts.{stored-more, stored-all}
+use Rattle.pages.proofs.Stored.{stored-more, stored-all}
 use Rattle.pages.proofs.carry.put_behind.Statement.{statement}
 use Rattle.pages.proofs.carry.put_behind.Tie as tie
 
