@@ -3,7 +3,7 @@
 use Prim.Native.Nat.{ℕ, _+_, _-_, _*_, _≤_, _<_}
 use mathlib.Core.Path.{_≡_, refl, sym, ap, _∙_, subst}
 use mathlib.Core.Logic.{_⊎_, inl, inr, ⊎-elim}
-use mathlib.Core.Bool.{Bool, true, false, cond, _&&_}
+use mathlib.Core.Bool.{Bool, true, false, cond}
 use mathlib.Core.Option.{Option, none, some}
 use mathlib.Core.List.{List, map}
 use native.Mathlib.Omega.{arith}
@@ -42,11 +42,11 @@ use Rattle.refresh.proofs.Output.{FrontIs, after-zero}
 use Rattle.pages.specs.declared.told.Happened.{Happened}
 use Rattle.pages.specs.declared.told.Happened.the-variants.{Decided, Refused, More, End}
 use Rattle.pages.specs.declared.told.Fed.{Fed}
-use Rattle.pages.specs.Pages.{carrySize, mayCarry, bytesIn, cannotBe, wholeIn, recordIn, feedRow, isUnfit}
+use Rattle.pages.specs.Pages.{bytesIn, cannotBe, wholeIn, recordIn, feedRow, isUnfit}
 use Rattle.pages.specs.Pages.{FeedRow, wrongCarry, stuck, cannotGoOn, recordWhole, goesOn, atEnd, torn, FeedsAs, Feeds}
-use Rattle.pages.proofs.Rows.{row-facts, may-split, cannot-tells}
-use Rattle.pages.proofs.Fronts.{Such, held, length-in, new-length, record-goes-on, record-size, record-fits, begun-fits}
-use Rattle.pages.proofs.Decided.{happened-is, taken-is, unfit-said, verdict-said, verdict-carry}
+use Rattle.pages.proofs.Rows.{row-facts, cannot-tells}
+use Rattle.pages.proofs.Fronts.{Such, such-lent, held, length-in, new-length, record-goes-on, record-size, record-fits, begun-fits}
+use Rattle.pages.proofs.Decided.{happened-is, taken-is, unfit-said, verdict-said, verdict-taken, verdict-carry}
 use Rattle.pages.proofs.CarryBytes.{in-bytes, record-bytes}
 use Rattle.pages.proofs.Refusals.{said-else}
 use Rattle.demands.specs.Touches.{Within, positionFrom, positionTo, CreateTouches, MeldTouches, FeedTouches, RefreshTouches, WriteTouches, ReadTouches}
@@ -307,28 +307,24 @@ module _ (m carry : List ℕ) (carried : ℕ) (part : List ℕ) (over : Bool) (l
       bytes : List ℕ
       bytes = bytesIn carry carried part
 
-      such : (eqb (length carry) carrySize && mayCarry carry carried) ≡ true → Such carry carried
-      such t = let (x, y) = may-split carry carried t in record { sized = x; may = y }
-
       go : (row : FeedRow) → feedRow carry carried part over ≡ row → FeedsAs row m carry carried part r m′ carry′ → FeedTouches m carry carried r m′ carry′
       go wrongCarry e l = no-byte _ (l .said) refl (l .pool) (l .carry-is)
       go stuck e l = no-byte _ (l .said) refl (l .pool) (l .carry-is)
       go cannotGoOn e l =
           let t = row-facts cannotGoOn carry carried part over e in
-          let s = such (t .0) in
+          let s = such-lent carry carried (t .0) in
           let new : carried < 2 = new-length s part (t .1) (t .2) in
           let size : length (take 2 bytes) ≡ 2 = length-take-le 2 bytes (cannot-tells bytes (t .2) .0) in
           no-record _ (l .said) refl (l .pool) (put-front s (take 2 bytes) (2 - carried) (omega (arith, size)) (omega (arith, size, s .sized)) (begins s 2 (omega arith)) (l .carry-is))
           (λ y. absurd (⊎-elim (said-else Names.outputShort (l .said) refl (λ n. omega arith)) (said-else Names.unfitPool (l .said) refl (λ n. omega arith)) y))
-      go recordWhole e x = let t = row-facts recordWhole carry carried part over e in by-answer (such (t .0)) (t .1) (t .2) (t .3)
+      go recordWhole e x = let t = row-facts recordWhole carry carried part over e in by-answer (such-lent carry carried (t .0)) (t .1) (t .2) (t .3)
         where
           past : Such carry carried → cannotBe (take carried carry) ≡ false → cannotBe bytes ≡ false → wholeIn bytes ≡ true
-              → carry′ ≡ (if eqb carried 0 then carry else front (recordIn bytes) carry) → Within carried (carried + (pastAt bytes 0 - carried)) carry carry′
-          past s t₁ t₂ t₃ k =
-              let goes : carried < pastAt bytes 0 = record-goes-on s part t₁ in
-              by-case (eqb carried 0) (λ z. within-nothing carried (carried + (pastAt bytes 0 - carried)) carry carry′ (simp z at k)) λ z.
-              put-front s (recordIn bytes) (pastAt bytes 0 - carried) (omega (arith, record-size bytes t₂ t₃)) (omega (arith, record-size bytes t₂ t₃, record-fits bytes t₂ t₃, s .sized))
-              (begins s (pastAt bytes 0) (omega arith)) (simp z at k)
+              → carry′ ≡ (if eqb carried 0 then carry else front (recordIn bytes) carry) → carried + r .taken ≡ pastAt bytes 0 → Within carried (carried + r .taken) carry carry′
+          past s t₁ t₂ t₃ k up-to =
+              by-case (eqb carried 0) (λ z. within-nothing carried (carried + r .taken) carry carry′ (simp z at k)) λ z.
+              put-front s (recordIn bytes) (r .taken) (record-size bytes t₂ t₃ ∙ sym up-to) (omega (arith, record-size bytes t₂ t₃, record-fits bytes t₂ t₃, s .sized))
+              (begins s (pastAt bytes 0) (omega (arith, up-to))) (simp z at k)
 
           by-answer : Such carry carried → cannotBe (take carried carry) ≡ false → cannotBe bytes ≡ false → wholeIn bytes ≡ true → FeedTouches m carry carried r m′ carry′
           by-answer s t₁ t₂ t₃ =
@@ -338,12 +334,12 @@ module _ (m carry : List ℕ) (carried : ℕ) (part : List ℕ) (over : Bool) (l
               record {
                 decided = λ a y. subst (λ (k : Answer). MeldTouches m k m′) (decided-same (sym (happened-is v) ∙ y)) touches;
                 undecided = λ n. absurd (n (x .melded .answer) (happened-is v));
-                taken = subst (λ (n : ℕ). Within carried (carried + n) carry carry′) (sym (taken-is v)) (past s t₁ t₂ t₃ (verdict-carry x u));
+                taken = past s t₁ t₂ t₃ (verdict-carry x u) (verdict-taken x u (omega (arith, record-goes-on s part t₁)));
                 refusal = λ y. absurd (⊎-elim (said-else Names.outputShort v refl (λ n. omega arith)) (said-else Names.unfitPool v refl (λ n. omega arith)) y);
               }
       go goesOn e l =
           let t = row-facts goesOn carry carried part over e in
-          let s = such (t .0) in
+          let s = such-lent carry carried (t .0) in
           let size : length bytes ≡ carried + length part = length-in s part in
           no-record _ (l .said) refl (l .pool)
           (put-front s bytes (length part) size (omega (arith, begun-fits bytes (t .2) (t .3), s .sized)) (take-at (take carried carry) part carried (held s)) (l .carry-is))
