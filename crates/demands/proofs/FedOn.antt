@@ -168,7 +168,7 @@ module _ {N Z : ℕ} {log : List ℕ} {rs : List Fed} {taken : ℕ} {m carry : L
         go atEnd e l = unmoved _ (l .said) refl (l .pool) (l .carry-is) refl (omega (arith, eqb-true (carried + length part) 0 (row-facts atEnd carry carried part over e .5)))
         go torn e l = unmoved _ (l .said) refl (l .pool) (l .carry-is) refl refl
 
-    -- where the call says how the log ends, that stands at the card's place, and nothing has changed
+    -- where the call says how the log ends, that stands at the card's place; pool and verdicts are as before
     pub ended-so : (over ≡ true → length log ≤ taken + n) → (last : Cut) → endingIn (r .happened) ≡ some last
         → Whole N Z log (verdictsIn rs) last m × (m′ ≡ m) × (verdictsIn (rs ++ (r ∷ [])) ≡ verdictsIn rs)
     ended-so all last ending = go (feedRow carry carried part over) refl (f .as-said)
