@@ -7,6 +7,7 @@ pub mod check;
 pub mod generate;
 pub mod mistaken;
 pub mod options;
+mod pieces;
 pub mod process;
 pub mod setting;
 pub mod shrink;

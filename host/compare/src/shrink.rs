@@ -1,99 +1,16 @@
 //! From a trial that differs to a smaller one that still does: records are
-//! dropped, then points and scans, then the last bytes of what is no record, then
-//! cuts between parts, until nothing more can go.
+//! dropped, then cuts between parts, then points and scans, then the last bytes of
+//! what is no record, until nothing more can go.
 
-use reference::log::parts;
-use reference::pages::cut;
 use reference::program::split_up_to;
 use reference::record::{with_length, LEAST_LENGTH};
 use reference::Record;
 
+use crate::pieces::Pieces;
 use crate::trial::Trial;
 
 /// The most tries, so that a slow program cannot hold things up for long.
 const TRIES: usize = 6_000;
-
-/// Bytes of the log, and the places in them where a part ends: 0 is in front of
-/// the first byte, and a place that stands twice is an empty part.
-#[derive(Clone, Debug, Default)]
-struct Piece {
-    bytes: Vec<u8>,
-    cuts: Vec<usize>,
-}
-
-/// A trial in pieces: a piece a record, and the tail behind the last.
-#[derive(Clone, Debug)]
-struct Pieces {
-    limits: Vec<u8>,
-    records: Vec<Piece>,
-    tail: Piece,
-    in_parts: bool,
-}
-
-impl Pieces {
-    /// The pieces of a trial whose limits are good.
-    fn of(limits: &[u8], log: &[u8], sizes: Option<&[usize]>) -> Pieces {
-        let lengths = cut(log, sizes.unwrap_or(&[]));
-        let count = sizes.map_or(0, <[usize]>::len);
-        let mut places = lengths.iter().take(count).scan(0, |end, part| {
-            *end += part.len();
-            Some(*end)
-        });
-        let mut place = places.next();
-        let mut start = 0;
-        let mut piece = |bytes: &[u8], end: usize| {
-            let mut cuts = Vec::new();
-            while let Some(inside) = place.filter(|&place| place < end) {
-                cuts.push(inside - start);
-                place = places.next();
-            }
-            start += bytes.len();
-            let bytes = bytes.to_vec();
-            Piece { bytes, cuts }
-        };
-        let (found, tail) = parts(log);
-        let mut end = 0;
-        let records = found.iter().map(|record| {
-            end += record.len();
-            piece(record, end)
-        });
-        Pieces {
-            limits: limits.to_vec(),
-            records: records.collect(),
-            tail: piece(tail, usize::MAX),
-            in_parts: sizes.is_some(),
-        }
-    }
-
-    /// Records and tail, in order.
-    fn all(&self) -> impl Iterator<Item = &Piece> {
-        self.records.iter().chain([&self.tail])
-    }
-
-    /// The trial that these pieces are.
-    fn trial(&self) -> Trial {
-        let (mut start, mut last) = (0, 0);
-        let (mut input, mut sizes) = (self.limits.clone(), Vec::new());
-        for piece in self.all() {
-            for &inside in &piece.cuts {
-                sizes.push(start + inside - last);
-                last = start + inside;
-            }
-            start += piece.bytes.len();
-            input.extend(&piece.bytes);
-        }
-        match self.in_parts {
-            true => Trial::in_parts(input, sizes),
-            false => Trial::whole(input),
-        }
-    }
-
-    /// How much there is of them: bytes and cuts.
-    fn size(&self) -> usize {
-        let size = |piece: &Piece| piece.bytes.len() + piece.cuts.len();
-        self.all().map(size).sum()
-    }
-}
 
 /// The search for smaller pieces.
 struct Search<'a> {

@@ -37,6 +37,7 @@ macro_rules! mistakes {
 }
 
 pub mod feed;
+mod feeder;
 mod meld;
 mod record;
 mod room;
