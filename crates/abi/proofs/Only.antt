@@ -85,7 +85,7 @@ only-feed m carry carried part over happened n looks taken left happened′ n′
     u = fedNumbers happened′ n′ looks′ taken′ left′
 
     one : (fedFrom t ≡ fedFrom u) × (m′ ≡ m″) × (carry′ ≡ carry″)
-    one = Pages.only-feed m carry carried part over (fedFrom t) (fedFrom u) m′ m″ carry′ carry″ lent (a .feeds) (b .feeds)
+    one = Pages.only-feed lent (a .feeds) (b .feeds)
 
     same : t ≡ u
     same = a .told ∙ ap ofFed (one .0) ∙ sym (b .told)
