@@ -121,7 +121,7 @@ same-log-same-bytes N Z log xs ys last last′ m m′ b k l =
 -- A CUT LOG
 
 -- the rules' answers to the first of some records are the first of the answers
-first-verdicts : (n : ℕ) (S : State) (parts : List (List ℕ)) → verdicts S (take n parts) ≡ take n (verdicts S parts)
+pub first-verdicts : (n : ℕ) (S : State) (parts : List (List ℕ)) → verdicts S (take n parts) ≡ take n (verdicts S parts)
 first-verdicts zero S parts = refl
 first-verdicts (suc n) S [] = refl
 first-verdicts (suc n) S (bytes ∷ parts) = ap (λ (l : List Melded). meldedOf S (parse bytes) ∷ l) (first-verdicts n (next S (parse bytes)) parts)

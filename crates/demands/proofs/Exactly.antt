@@ -29,6 +29,7 @@ use Rattle.advance.specs.Moved.{movedOn}
 use Rattle.meld.specs.declared.melding.Melded.{Melded}
 use Rattle.meld.specs.After.{afterIn, leftIn}
 use Rattle.meld.specs.Melds.{Melds}
+use Rattle.pages.proofs.Decided.{below-seven}
 use Rattle.demands.specs.Runs.{Means}
 use Rattle.demands.specs.Touches.{Within, positionFrom, positionTo}
 use Rattle.demands.specs.Exactly.{Row7, Row6, PositionLeft, Row4, Formed, Row5, Row2, InZone, Row1, Row3, Row0, UsesPosition, MeldExactly}
@@ -144,16 +145,6 @@ row-fixes m bytes committed w = let z = w .above in record {
   means = z .above .above .means;
   fixed = ap (verdict (w .S)) (z .above .well-formed) ∙ verdict-committed (w .S) (w .r) (z .above .above .left) (z .not-ahead) (z .not-too-old) (w .no-conflict) (w .room);
 }
-
--- no verdict is 7
-below-seven : (v : Verdict) → verdictAnswer v .number < 7
-below-seven committed = omega arith
-below-seven conflict = omega arith
-below-seven tooOld = omega arith
-below-seven noRoom = omega arith
-below-seven malformed = omega arith
-below-seven ahead = omega arith
-below-seven positionsUsedUp = omega arith
 
 -- but for 6 and 0 the arrangement moves on
 moves-on : (A : Arrangement) (o : Option Rec) (v : Verdict) → verdict (stateOf A) o ≡ v

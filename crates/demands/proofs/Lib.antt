@@ -16,3 +16,8 @@ pub mod Looks
 pub mod TableLog
 pub mod ListsBack
 pub mod SomeRun
+pub mod LogFronts
+pub mod FedOn
+pub mod Feeding
+pub mod Parts
+pub mod SomeFeeding

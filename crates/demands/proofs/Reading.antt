@@ -1,21 +1,23 @@
 -- A card that has read some records of a log has melded the first of the parts that the log's walk hands out.
 -- Assumes nothing.
-use Prim.Native.Nat.{ℕ, zero, suc, _-_, _≤_}
+use Prim.Native.Nat.{ℕ, zero, suc, _+_, _-_, _≤_}
 use mathlib.Core.Path.{_≡_, refl, sym, ap, _∙_, subst}
-use mathlib.Core.List.{List}
+use mathlib.Core.List.{List, [], _∷_, _++_}
 use native.Mathlib.Omega.{arith}
 use lib.ListN.{length, take, drop, length-drop}
-use denote.Ref.{now}
+use denote.Ref.{RefT, now}
 use Rattle.words.specs.Word.{Bytes}
 use Rattle.words.specs.Laws.{bytes-drop, bytes-take}
 use Rattle.log.specs.declared.found.Cut.{Cut}
 use Rattle.log.specs.declared.found.Cut.the-variants.{Record}
-use Rattle.log.specs.Log.{cutAt, partOf, CutIs}
+use Rattle.log.specs.Log.{cutAt, partOf, startOf, CutIs, HandedOut}
 use Rattle.log.specs.Walk.{Walks, ends, breaks, hands}
 use Rattle.log.proofs.Told.{cut-case}
-use Rattle.log.proofs.Stands.{end-not-record, broken-not-record, same-next}
+use Rattle.log.proofs.Stands.{record-tells, end-not-record, broken-not-record, same-next}
+use Rattle.pool.specs.Image.{Fit}
 use Rattle.meld.specs.declared.melding.Melded.{Melded}
 use Rattle.meld.specs.Melds.{Melds}
+use Rattle.pages.proofs.Decided.{meld-stays-fit}
 use Rattle.demands.specs.Runs.{Melding, none-left, ReadingOn, so-far, isOver}
 use Rattle.demands.proofs.Following.{AllBytes, no-bytes, more-bytes}
 
@@ -69,3 +71,36 @@ whole-read {log = log} {place = place} {xs = xs} {parts = parts} {c = c} f i o =
     go rest d (ends e) = (left (ap (length {A = List ℕ}) d), cut-case log place c i ∙ e)
     go rest d (breaks e) = (left (ap (length {A = List ℕ}) d), cut-case log place c i ∙ e)
     go rest d (hands e w) = absurd (subst isOver (cut-case log place c i ∙ e) o)
+
+-- ONE RECORD MORE
+
+-- what stands at a place is what `cut` promises
+pub cut-is : (log : List ℕ) (place : ℕ) → CutIs log place (cutAt log place)
+cut-is log place = record { told = refl }
+
+-- a record that stands at the place is read, and the rest from past it
+pub read-first : {log : List ℕ} {place next place′ : ℕ} {m m′ m″ : List ℕ} {a : Melded} {xs : List Melded}
+    → cutAt log place ≡ Record next → Melds m (partOf (Record next) log place) m′ a → ReadingOn log next m′ xs place′ m″
+    → ReadingOn log place m (a ∷ xs) place′ m″
+read-first {log = log} {place = place} {next = next} e h t =
+    let lent : RefT (List ℕ) = record { ptr = (0, 0); name = 0; now = log } in
+    let part : RefT (List ℕ) = record { ptr = (0, 0 + startOf (cutAt log place) place); name = 0; now = partOf (Record next) log place } in
+    let handed : HandedOut lent place part = record { bytes = ap (λ (c : Cut). partOf c log place) (sym e); block = refl; start = refl } in
+    ReadingOn.one-more {lent = lent} {part = part} refl (subst (CutIs log place) e (cut-is log place)) handed h t
+
+-- a record that stands where a card has come to is its next
+pub read-last : {log : List ℕ} {place place′ next : ℕ} {m m′ m″ : List ℕ} {a : Melded} {xs : List Melded}
+    → ReadingOn log place m xs place′ m′ → cutAt log place′ ≡ Record next → Melds m′ (partOf (Record next) log place′) m″ a
+    → ReadingOn log place m (xs ++ (a ∷ [])) next m″
+read-last so-far e h = read-first e h so-far
+read-last (ReadingOn.one-more l c p d t) e h = ReadingOn.one-more l c p d (read-last t e h)
+
+-- a card never comes past the end
+pub read-inside : {log : List ℕ} {place place′ : ℕ} {m m′ : List ℕ} {xs : List Melded} → ReadingOn log place m xs place′ m′ → place ≤ length log → place′ ≤ length log
+read-inside so-far h = h
+read-inside {log = log} {place = place} (ReadingOn.one-more {next = next} l c p d t) h = read-inside t (record-tells log place next (sym (case c)) .inside)
+
+-- its pool stays fit
+pub read-fit : {log : List ℕ} {place place′ : ℕ} {m m′ : List ℕ} {xs : List Melded} → ReadingOn log place m xs place′ m′ → Fit m → Fit m′
+read-fit so-far f = f
+read-fit (ReadingOn.one-more l c p d t) f = read-fit t (meld-stays-fit d f)

@@ -2,17 +2,16 @@
 -- runs, `table-as-a-log` among them, holds for want of a run.
 -- The idea: the log's walk (`walked`) says where to cut next; the pool stays fit, so the meld can be called again.
 -- Assumes nothing.
-use Prim.Native.Nat.{ℕ, _+_, _-_}
-use mathlib.Core.Path.{refl, sym, ap, subst}
+use Prim.Native.Nat.{ℕ, _-_}
+use mathlib.Core.Path.{subst}
 use mathlib.Core.List.{List, [], _∷_}
 use lib.ListN.{drop}
-use denote.Ref.{RefT}
 use Rattle.words.specs.Word.{Bytes}
 use Rattle.words.specs.Laws.{bytes-drop, bytes-take}
 use Rattle.record.specs.Answer.{committed}
 use Rattle.log.specs.declared.found.Cut.{Cut}
 use Rattle.log.specs.declared.found.Cut.the-variants.{Record}
-use Rattle.log.specs.Log.{cutAt, partOf, startOf, CutIs, HandedOut}
+use Rattle.log.specs.Log.{partOf, CutIs}
 use Rattle.log.specs.Walk.{Walks, ends, breaks, hands}
 use Rattle.log.proofs.Walk.{walked}
 use Rattle.pool.specs.Image.{Fit}
@@ -21,11 +20,8 @@ use Rattle.meld.specs.declared.melding.Melded.{Melded}
 use Rattle.demands.specs.Runs.{ReadingOn, so-far, isOver}
 use Rattle.demands.specs.Calls.{Call, none-more}
 use Rattle.demands.specs.SomeRun.{SomeMeld, SomeWhole}
+use Rattle.demands.proofs.Reading.{cut-is, read-first}
 use Rattle.demands.proofs.Calls.{call-stays-fit, stays-fit}
-
--- what stands at a place is what `cut` promises
-cut-is : (log : List ℕ) (place : ℕ) → CutIs log place (cutAt log place)
-cut-is log place = record { told = refl }
 
 -- from a place and a pool on, up to where no record is found
 record SomeReading (log : List ℕ) (place : ℕ) (m : List ℕ) (last : Cut) : Type 0 where
@@ -43,10 +39,7 @@ some-reading meld {log = log} {place = place} b (ends e) m f =
 some-reading meld {log = log} {place = place} b (breaks e) m f =
     record { answers = []; stop = place; after = m; reading = so-far; found = subst (CutIs log place) e (cut-is log place); over = tt }
 some-reading meld {log = log} {place = place} b (hands {next = next} e w) m f =
-    let lent : RefT (List ℕ) = record { ptr = (0, 0); name = 0; now = log } in
     let bytes : List ℕ = partOf (Record next) log place in
-    let part : RefT (List ℕ) = record { ptr = (0, 0 + startOf (cutAt log place) place); name = 0; now = bytes } in
-    let handed : HandedOut lent place part = record { bytes = ap (λ (c : Cut). partOf c log place) (sym e); block = refl; start = refl } in
     let are : Bytes bytes = bytes-take (next - place) (drop place log) (bytes-drop place log b) in
     let (x, m′, h) = meld m bytes (f .image .bytes) are in
     let rest = some-reading meld b w m′ (call-stays-fit (Call.meld bytes x are h) f) in
@@ -54,7 +47,7 @@ some-reading meld {log = log} {place = place} b (hands {next = next} e w) m f =
       answers = x ∷ rest .answers;
       stop = rest .stop;
       after = rest .after;
-      reading = ReadingOn.one-more {lent = lent} {part = part} refl (subst (CutIs log place) e (cut-is log place)) handed h (rest .reading);
+      reading = read-first e h (rest .reading);
       found = rest .found;
       over = rest .over;
     }

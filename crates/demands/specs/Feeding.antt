@@ -15,7 +15,8 @@ use Rattle.meld.specs.declared.melding.Melded.{Melded}
 use Rattle.pages.specs.declared.told.Happened.{Happened}
 use Rattle.pages.specs.declared.told.Happened.the-variants.{Decided, Refused, More, End}
 use Rattle.pages.specs.declared.told.Fed.{Fed}
-use Rattle.pages.specs.Pages.{Feeds}
+use Rattle.pages.specs.Pages.{carrySize, mayCarry, Feeds}
+use Rattle.demands.specs.Runs.{Card}
 
 -- WHAT CALLS TELL
 
@@ -50,6 +51,23 @@ pub data Feeding (log m carry : List ℕ) : List Fed → ℕ → List ℕ → Li
       → (n : ℕ) (over : Bool) → (over ≡ true → length log ≤ taken + n)
       → Feeds m′ carry′ carried (take n (drop taken log)) over r m″ carry″
       → Feeding log m carry (rs ++ (r ∷ [])) (taken + r .taken) m″ carry″ (r .carried)
+
+-- one call more on what such calls have left, lent and told as they are: what it gives back, and the pool and the carry then
+pub record OneMore (log : List ℕ) (taken : ℕ) (m carry : List ℕ) (carried : ℕ) (r : Fed) (m′ carry′ : List ℕ) : Type 0 where
+  pub n : ℕ
+  pub over : Bool
+  pub all-of-it : over ≡ true → length log ≤ taken + n
+  pub feeds : Feeds m carry carried (take n (drop taken log)) over r m′ carry′
+
+-- R49: how far calls have come: a card has melded the log up to a place, the bytes from there to what is taken are carried, and they may be
+pub record FedSoFar (N Z : ℕ) (log : List ℕ) (rs : List Fed) (taken : ℕ) (m carry : List ℕ) (carried : ℕ) : Type 0 where
+  pub place : ℕ
+  pub card : Card N Z log (verdictsIn rs) place m
+  pub taken-is : place + carried ≡ taken
+  pub inside : taken ≤ length log
+  pub carried-are : take carried carry ≡ take carried (drop place log)
+  pub sized : length carry ≡ carrySize
+  pub may : mayCarry carry carried ≡ true
 
 -- A LIST OF PARTS
 

@@ -10,5 +10,5 @@ pub mod Calls
 pub mod Looks
 pub mod TableLog
 pub mod ListsBack
-pub mod SomeRun
 pub mod Feeding
+pub mod SomeRun

@@ -4,5 +4,5 @@ mod Verdicts
 pub mod Lookups
 mod Statuses
 mod Readings
-mod Whole
+pub mod Whole
 pub mod Only

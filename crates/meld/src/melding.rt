@@ -16,8 +16,8 @@ pub struct Melded {
     pub looks: u32,
 }
 
-// Melds a record into a fit pool: 6, 4, 5, 2, 1, 3 or 0.
-fn meld_fit(pool: &mut [u8], bytes: &[u8]) -> Melded
+// Melds a record into a fit pool: 6, 4, 5, 2, 1, 3 or 0. For a layer above that has checked the pool itself; a user calls `meld`.
+pub fn meld_fit(pool: &mut [u8], bytes: &[u8]) -> Melded
     requires { ⌜ Fit (now pool) ⌝ }
     ensures { λ r. ⌜ MeldsFit (now (pool .entry)) (now (bytes .entry)) (now (pool .exit)) r ⌝ }
 {
