@@ -64,6 +64,14 @@ enum emuparasol_kind {
     EMUPARASOL_KIND_DELETE = 3
 };
 
+/* What emuparasol_feed has done, each number with its one name. */
+enum emuparasol_happened {
+    EMUPARASOL_REFUSED = 0, /* no record was decided: the answer is 8, 10 or 7 */
+    EMUPARASOL_DECIDED = 1, /* one record was: the answer is its verdict, 6, 4, 5, 2, 1, 3 or 0 */
+    EMUPARASOL_MORE = 2,    /* the part is taken, and the record's last byte is still to come */
+    EMUPARASOL_END = 3      /* the log is over, behind a whole record or with none */
+};
+
 /* The bytes of a pool for n keys. */
 #define EMUPARASOL_POOL_BYTES(n) ((uint64_t)64 + (uint64_t)64 * (uint64_t)(n))
 /* The bytes of the shortest and of the longest record, and the most points and scans in one. */
@@ -71,6 +79,8 @@ enum emuparasol_kind {
 #define EMUPARASOL_MOST_RECORD 905
 #define EMUPARASOL_MOST_POINTS 64
 #define EMUPARASOL_MOST_SCANS 8
+/* The bytes of a carry, in which a record waits for its rest. */
+#define EMUPARASOL_CARRY_BYTES EMUPARASOL_MOST_RECORD
 
 /* Makes the lent bytes a new pool, at position 0 and without keys, for at most n keys (1 to 65,536) and zones of at most z positions (1 to 4,096).
    Answers 0: every byte of the pool is fixed by n and z. Answers 9 if n or z is outside its range or pool_length is not 64 + 64 n: the bytes are
@@ -90,6 +100,27 @@ uint8_t emuparasol_lookup(const uint8_t *pool, uint64_t pool_length, uint32_t ke
    position moves on by one; on 0 the record's writes are stored at that position too. *looks is the number of nodes that the search for a conflict
    looked at, 0 on 7, 6, 4, 5 and 2. */
 uint8_t emuparasol_meld(uint8_t *pool, uint64_t pool_length, const uint8_t *record, uint64_t record_length, uint32_t *looks);
+
+/* Takes the next part of the log, of any length, and decides one record at most, once its last byte is in. The first *carried bytes of the carry are
+   the front of a record that is not all there: 0 of them before the first call, and from then on those that the call before left. "In" are these bytes
+   and behind them the part. With over the log ends with this part. *carried is read and set; *happened, *looks and *taken are set. The first that
+   applies:
+   - carry_length is not EMUPARASOL_CARRY_BYTES, or no call leaves a carry with such bytes and such a number: REFUSED, answers 8. Pool, carry and
+     *carried are as before, and *taken is 0.
+   - The two bytes of a length below 7 or above 903 are carried: REFUSED, answers 10. Pool, carry and *carried are as before, and *taken is 0.
+   - The two bytes of such a length are in: REFUSED, answers 10. They are the carry's first two now, *carried is 2, and *taken is how many of them the
+     part had, 1 or 2. The pool is as before.
+   - The record's last byte is in, and the pool is unfit: REFUSED, answers 7. Pool, carry and *carried are as before, and *taken is 0.
+   - The record's last byte is in: DECIDED, answers 6, 4, 5, 2, 1, 3 or 0, with the pool and *looks as emuparasol_meld leaves them. *taken is how many
+     bytes the part had of the record: lend those behind them next. *carried is 0. If a byte of the record was carried, all of it is at the carry's
+     front now; else it was melded where it lay, and the carry is as before.
+   - The log is not over: MORE, answers 0. All of the part is taken and stands in the carry behind what was carried, and *carried counts both. The pool
+     is as before.
+   - The log is over, and nothing is in: END, answers 0. Pool and carry are as before, *taken and *carried are 0.
+   - The log is over, and its last record is torn: REFUSED, answers 10. Pool, carry and *carried are as before, and *taken is 0.
+   *looks is 0 unless a record was decided. The carry's bytes behind what is said of its front are always as before; at first they may be anything. */
+uint8_t emuparasol_feed(uint8_t *pool, uint64_t pool_length, uint8_t *carry, uint64_t carry_length, uint64_t *carried, const uint8_t *part,
+                        uint64_t part_length, bool over, uint8_t *happened, uint32_t *looks, uint64_t *taken);
 
 /* Brings a record that has waited up to the pool's position: the first that applies of 7, 4, 5, 2, 1, 8 and 0. On 0 the front of the output is the
    same record with the pool's position as its snapshot, and the rest of the output is as before; on any other answer all of it is. The room needed

@@ -19,9 +19,10 @@ use Rattle.meld.specs.declared.melding.Melded.{Melded}
 use Rattle.meld.specs.Melds.{Melds}
 use Rattle.meld.specs.Statuses.{StatusIs}
 use Rattle.meld.proofs.Only as Meld
+use Rattle.pages.proofs.Only as Pages
 use Rattle.abi.specs.declared.numbers.LookupNumbers.{LookupNumbers}
-use Rattle.abi.specs.Numbers.{melded, lookedUp, statusFrom}
-use Rattle.abi.specs.Told.{LooksUpAs, InForceAs}
+use Rattle.abi.specs.Numbers.{melded, lookedUp, statusFrom, FedNumbers, fedNumbers, ofFed, fedFrom}
+use Rattle.abi.specs.Told.{LooksUpAs, InForceAs, FeedsInNumbers}
 
 -- `emuparasol_create`: one number, and one content of the pool
 pub only-create : (m : List ℕ) (n z r q : ℕ) (m′ m″ : List ℕ) → Created m n z (answer r) m′ → Created m n z (answer q) m″ → (r ≡ q) × (m′ ≡ m″)
@@ -60,6 +61,34 @@ pub only-meld : (m bytes m′ m″ : List ℕ) (r looks q looks′ : ℕ) → By
 only-meld m bytes m′ m″ r looks q looks′ lent a b =
     let x = Meld.only-meld m bytes m′ m″ (melded r looks) (melded q looks′) lent a b in
     (ap (λ (y : Melded). y .answer .number) (x .0), ap (λ (y : Melded). y .looks) (x .0), x .1)
+
+-- `emuparasol_feed`: five numbers, one content of the pool and one of the carry, for any bytes lent as pool
+pub only-feed : (m carry : List ℕ) (carried : ℕ) (part : List ℕ) (over : Bool) (happened n looks taken left happened′ n′ looks′ taken′ left′ : ℕ)
+    (m′ carry′ m″ carry″ : List ℕ) → Bytes m
+    → FeedsInNumbers m carry carried part over (fedNumbers happened n looks taken left) m′ carry′
+    → FeedsInNumbers m carry carried part over (fedNumbers happened′ n′ looks′ taken′ left′) m″ carry″
+    → (happened ≡ happened′) × (n ≡ n′) × (looks ≡ looks′) × (taken ≡ taken′) × (left ≡ left′) × (m′ ≡ m″) × (carry′ ≡ carry″)
+only-feed m carry carried part over happened n looks taken left happened′ n′ looks′ taken′ left′ m′ carry′ m″ carry″ lent a b = (
+  ap (λ (x : FedNumbers). x .said .happened) same,
+  ap (λ (x : FedNumbers). x .said .number) same,
+  ap (λ (x : FedNumbers). x .looks) same,
+  ap (λ (x : FedNumbers). x .taken) same,
+  ap (λ (x : FedNumbers). x .carried) same,
+  one .1,
+  one .2,
+)
+  where
+    t : FedNumbers
+    t = fedNumbers happened n looks taken left
+
+    u : FedNumbers
+    u = fedNumbers happened′ n′ looks′ taken′ left′
+
+    one : (fedFrom t ≡ fedFrom u) × (m′ ≡ m″) × (carry′ ≡ carry″)
+    one = Pages.only-feed lent (a .feeds) (b .feeds)
+
+    same : t ≡ u
+    same = a .told ∙ ap ofFed (one .0) ∙ sym (b .told)
 
 -- `emuparasol_refresh`: one number, and one content of the output
 pub only-refresh : (m original before : List ℕ) (r q : ℕ) (x y : List ℕ)

@@ -1,13 +1,18 @@
 -- The pool's answers and results, put together from the plain numbers that C is given. Those of the record part stand in `record_abi`.
 -- Assumes nothing: these are definitions.
 use Prim.Native.Nat.{ℕ}
-use Rattle.words.specs.Choice.{valueOr}
+use lib.Dec.{eqb}
+use Rattle.words.specs.Choice.{valueOr, if_then_else_}
 use Rattle.record_abi.specs.Numbers.{answer, numberIn}
 use Rattle.meld.specs.declared.kept.Lookup.{Lookup}
 use Rattle.meld.specs.declared.kept.Status.{Status}
 use Rattle.meld.specs.declared.melding.Melded.{Melded}
 use Rattle.meld.specs.Lookups.{LookupTold, lookupTold}
+use Rattle.pages.specs.declared.told.Happened.{Happened}
+use Rattle.pages.specs.declared.told.Happened.the-variants.{Decided, Refused, More, End}
+use Rattle.pages.specs.declared.told.Fed.{Fed}
 use Rattle.abi.specs.declared.numbers.LookupNumbers.{LookupNumbers}
+use Rattle.abi.specs.declared.numbers.HappenedNumbers.{HappenedNumbers}
 
 -- what meld gives back, from the number and the looks
 abbrev pub melded : ℕ → ℕ → Melded
@@ -28,3 +33,40 @@ lookupNumbers t = lookedUp (numberIn (t .answer)) (valueOr 0 (t .payload)) (valu
 -- so 7, 0 and 0 for an unfit pool; 0, 0 and 0 for an absent key; 0, the payload and the position for one that is found (R31)
 abbrev pub ofLookup : Lookup → LookupNumbers
 ofLookup l = lookupNumbers (lookupTold l)
+
+-- what a call of feed has done, as a number of its own, and the answer's number, 0 where there is none
+abbrev pub happenedNumbers : ℕ → ℕ → HappenedNumbers
+happenedNumbers happened n = record { happened = happened; number = n }
+
+-- so 0 and its answer for a refusal, 1 and the verdict for a record that was decided, 2 and 0 for more, 3 and 0 for the end (R47)
+abbrev pub ofHappened : Happened → HappenedNumbers
+ofHappened (Decided a) = happenedNumbers 1 (a .number)
+ofHappened (Refused a) = happenedNumbers 0 (a .number)
+ofHappened More = happenedNumbers 2 0
+ofHappened End = happenedNumbers 3 0
+
+-- the five numbers of a call of feed
+pub record FedNumbers : Type 0 where
+  pub said : HappenedNumbers
+  pub looks : ℕ
+  pub taken : ℕ
+  pub carried : ℕ
+
+-- put together: what happened, the answer's number, the looks, how many bytes were taken and how many are carried
+abbrev pub fedNumbers : ℕ → ℕ → ℕ → ℕ → ℕ → FedNumbers
+fedNumbers happened n looks taken carried = record { said = happenedNumbers happened n; looks = looks; taken = taken; carried = carried }
+
+-- what feed gives back, as numbers
+abbrev pub ofFed : Fed → FedNumbers
+ofFed r = record { said = ofHappened (r .happened); looks = r .looks; taken = r .taken; carried = r .carried }
+
+-- and put together again from them
+abbrev pub happenedFrom : HappenedNumbers → Happened
+happenedFrom t =
+    if eqb (t .happened) 0 then Refused (answer (t .number)) else
+    if eqb (t .happened) 1 then Decided (answer (t .number)) else
+    if eqb (t .happened) 2 then More else
+    End
+
+abbrev pub fedFrom : FedNumbers → Fed
+fedFrom t = record { happened = happenedFrom (t .said); looks = t .looks; taken = t .taken; carried = t .carried }

@@ -1,4 +1,4 @@
--- What the exported functions promise whose answers are no plain numbers in the library, a lookup and the record in force; and what the
+-- What the exported functions promise whose answers are no plain numbers in the library, a lookup, the record in force and feed; and what the
 -- numbers of a lookup say of the case behind them.
 -- Assumes nothing: these are definitions.
 use Prim.Native.Nat.{ℕ, _≤_}
@@ -12,8 +12,9 @@ use Rattle.record_abi.specs.Numbers.{answer}
 use Rattle.in_force.specs.InForce.{Source, original, refreshed, nothing, sourceOf, bytesFrom}
 use Rattle.meld.specs.declared.kept.Lookup.the-variants.{Unfit}
 use Rattle.meld.specs.Lookups.{lookupOf}
+use Rattle.pages.specs.Pages.{Feeds}
 use Rattle.abi.specs.declared.numbers.LookupNumbers.{LookupNumbers}
-use Rattle.abi.specs.Numbers.{ofLookup}
+use Rattle.abi.specs.Numbers.{ofLookup, FedNumbers, ofFed, fedFrom}
 
 -- for the state that the pool means, what the rules' lookup sees, as numbers; 7 where it means none
 pub record LooksUpAs (m : List ℕ) (k : ℕ) (t : LookupNumbers) : Type 0 where
@@ -37,3 +38,9 @@ pub record InForceAs (n : ℕ) (o b : List ℕ) (r : Bool) (offset size : ℕ) :
   pub slice : r ≡ inRefreshed (sourceOf (answer n) b)
   pub start : offset ≡ 0
   pub bytes : size ≡ length (bytesFrom (sourceOf (answer n) b) o b)
+
+-- R47, of the numbers: what is put together from them is what feed gives back, and they are the only ones that stand for it, so the answer's
+-- number is 0 with more and end
+pub record FeedsInNumbers (m carry : List ℕ) (carried : ℕ) (part : List ℕ) (over : Bool) (t : FedNumbers) (m′ carry′ : List ℕ) : Type 0 where
+  pub feeds : Feeds m carry carried part over (fedFrom t) m′ carry′
+  pub told : t ≡ ofFed (fedFrom t)

@@ -9,7 +9,9 @@ use meld::lookup;
 use meld::meld;
 use meld::refresh;
 use meld::status;
+use numbers::of_happened;
 use numbers::of_lookup;
+use pages::feed;
 use record::Answer;
 use record::check;
 use record::read;
@@ -23,8 +25,8 @@ ghost use Rattle.create.specs.Fresh.{Created};
 ghost use Rattle.refresh.specs.Refreshed.{RefreshIs};
 ghost use Rattle.meld.specs.Melds.{Melds};
 ghost use Rattle.meld.specs.Statuses.{StatusIs};
-ghost use Rattle.abi.specs.Numbers.{melded, lookedUp, statusFrom};
-ghost use Rattle.abi.specs.Told.{LooksUpAs, InForceAs};
+ghost use Rattle.abi.specs.Numbers.{melded, lookedUp, statusFrom, fedNumbers};
+ghost use Rattle.abi.specs.Told.{LooksUpAs, InForceAs, FeedsInNumbers};
 
 // Creates a pool with limits n and z in the bytes lent: 0, or 9 and no byte changes.
 #[no_mangle]
@@ -84,6 +86,32 @@ pub extern "C" fn emuparasol_meld(pool: &mut [u8], record: &[u8], looks: &mut u3
     *looks = melded.looks;
     let answer = melded.answer;
     answer.number
+}
+
+// Takes the next part of a log and decides one record at most, once its last byte is in. What happened is told by a number of its own; the answer's
+// number is 0 where there is none. How many bytes are carried is read and set.
+#[no_mangle]
+pub extern "C" fn emuparasol_feed(
+    pool: &mut [u8],
+    carry: &mut [u8],
+    carried: &mut usize,
+    part: &[u8],
+    over: bool,
+    happened: &mut u8,
+    looks: &mut u32,
+    taken: &mut usize,
+) -> u8
+    ensures { λ r. ⌜ FeedsInNumbers (now (pool .entry)) (now (carry .entry)) (now (carried .entry)) (now (part .entry)) over
+        (fedNumbers (now (happened .exit)) r (now (looks .exit)) (now (taken .exit)) (now (carried .exit))) (now (pool .exit)) (now (carry .exit)) ⌝ }
+{
+    let fed = feed(pool, carry, *carried, part, over);
+    *carried = fed.carried;
+    *looks = fed.looks;
+    *taken = fed.taken;
+    let what = fed.happened;
+    let said = of_happened(what);
+    *happened = said.happened;
+    said.number
 }
 
 // Puts the record with the pool's position as snapshot at the front of the output: 7, 4, 5, 2, 1, 8 or 0.

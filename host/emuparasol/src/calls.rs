@@ -57,6 +57,36 @@ pub fn meld(pool: &mut [u8], record: &[u8], looks: &mut u32) -> u8 {
     }
 }
 
+/// See `emuparasol_feed`.
+#[allow(clippy::too_many_arguments)]
+pub fn feed(
+    pool: &mut [u8],
+    carry: &mut [u8],
+    carried: &mut u64,
+    part: &[u8],
+    over: bool,
+    happened: &mut u8,
+    looks: &mut u32,
+    taken: &mut u64,
+) -> u8 {
+    // SAFETY: slices and references, as the head of this file says.
+    unsafe {
+        emuparasol_feed(
+            pool.as_mut_ptr(),
+            pool.len() as u64,
+            carry.as_mut_ptr(),
+            carry.len() as u64,
+            carried,
+            part.as_ptr(),
+            part.len() as u64,
+            over,
+            happened,
+            looks,
+            taken,
+        )
+    }
+}
+
 /// See `emuparasol_refresh`.
 pub fn refresh(pool: &[u8], original: &[u8], output: &mut [u8]) -> u8 {
     // SAFETY: slices and references, as the head of this file says.

@@ -1,6 +1,6 @@
 //! The functions of the static archive, declared as `include/emuparasol.h` does;
 //! that header says what each answers and what it leaves behind. The gate holds
-//! names and parameters to the header and to the proved source (`interface`).
+//! names, parameters and numbers to the header and to the proved source (`interface`).
 
 extern "C" {
     pub fn emuparasol_create(pool: *mut u8, pool_length: u64, n: u32, z: u32) -> u8;
@@ -26,6 +26,19 @@ extern "C" {
         record: *const u8,
         record_length: u64,
         looks: *mut u32,
+    ) -> u8;
+    pub fn emuparasol_feed(
+        pool: *mut u8,
+        pool_length: u64,
+        carry: *mut u8,
+        carry_length: u64,
+        carried: *mut u64,
+        part: *const u8,
+        part_length: u64,
+        over: bool,
+        happened: *mut u8,
+        looks: *mut u32,
+        taken: *mut u64,
     ) -> u8;
     pub fn emuparasol_refresh(
         pool: *const u8,
@@ -80,3 +93,9 @@ extern "C" {
     ) -> u8;
     pub fn emuparasol_cut(log: *const u8, log_length: u64, place: u64, next: *mut u64) -> u8;
 }
+
+// What `emuparasol_feed` has done.
+pub const REFUSED: u8 = 0;
+pub const DECIDED: u8 = 1;
+pub const MORE: u8 = 2;
+pub const END: u8 = 3;

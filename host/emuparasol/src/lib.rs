@@ -17,11 +17,13 @@ mod answer;
 pub mod calls;
 #[allow(missing_docs)]
 mod declared;
+mod feed;
 mod log;
 mod pool;
 mod record;
 
 pub use answer::{Error, Verdict};
+pub use feed::{Carry, Fed, CARRY_BYTES};
 pub use log::{BrokenLog, Records};
 pub use pool::{in_force, pool_bytes, Found, Limits, Melded, Pool, Status};
 pub use record::{

@@ -184,6 +184,11 @@ impl<B: AsMut<[u8]>> Pool<B> {
         done(calls::create(self.bytes.as_mut(), limits.n, limits.z))
     }
 
+    /// The pool's bytes, to be lent to a call.
+    pub(crate) fn as_mut_bytes(&mut self) -> &mut [u8] {
+        self.bytes.as_mut()
+    }
+
     /// Decides the log's next record, and stores what it commits. With `Ok` the
     /// record has taken its position, whatever the verdict is; with an error nothing
     /// has changed.

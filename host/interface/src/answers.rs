@@ -1,4 +1,4 @@
-//! The answers: a name and a number each.
+//! The answers, and what a call of `emuparasol_feed` has done: a name and a number each.
 
 use crate::{between, without_comments};
 
@@ -26,11 +26,37 @@ pub fn of_rattle(text: &str) -> Result<Vec<Answer>, String> {
 
 /// The constants of the header's `enum emuparasol_answer`, without their prefix.
 pub fn of_c(text: &str) -> Result<Vec<Answer>, String> {
+    of_c_enum(text, "emuparasol_answer")
+}
+
+/// The constants of the header's `enum emuparasol_happened`, without their prefix.
+pub fn of_c_happened(text: &str) -> Result<Vec<Answer>, String> {
+    of_c_enum(text, "emuparasol_happened")
+}
+
+fn of_c_enum(text: &str, name: &str) -> Result<Vec<Answer>, String> {
     let text = without_comments(text);
-    let block = between(&text, "enum emuparasol_answer {", "}").ok_or("no emuparasol_answer")?;
+    let open = format!("enum {name} {{");
+    let block = between(&text, &open, "}").ok_or(format!("no {name}"))?;
     listed(block, |name| {
         name.strip_prefix("EMUPARASOL_").map(str::to_string)
     })
+}
+
+/// What has happened, as the proved source and the Rust declarations have it: their
+/// `pub const NAME: u8 = NUMBER;`, of which there has to be one.
+pub fn of_bytes(text: &str) -> Result<Vec<Answer>, String> {
+    let text = without_comments(text);
+    let mut found = Vec::new();
+    for part in text.split("pub const ").skip(1) {
+        let (name, rest) = part.split_once(": u8 = ").ok_or(part)?;
+        let (number, _) = rest.split_once(';').ok_or(part)?;
+        found.push(answer(name, number)?);
+    }
+    match found.is_empty() {
+        true => Err("no pub const NAME: u8".into()),
+        false => Ok(found),
+    }
 }
 
 /// The names that the header's `emuparasol_answer_name` gives to the numbers, in the

@@ -2,8 +2,11 @@
 //! (`crates/abi`; the record part alone again in `crates/record_abi`), in
 //! `include/emuparasol.h` and in the Rust declarations
 //! (`emuparasol/src/declared.rs`); the answers also in `crates/record` and in the
-//! Rust enums, their names in the header's `emuparasol_answer_name`; the version in
-//! the header and in `host/Cargo.toml`. This crate reads each of them and says where two differ.
+//! Rust enums, their names in the header's `emuparasol_answer_name`; what a call of
+//! `emuparasol_feed` has done in the first three; the sizes of records and of a carry
+//! in `crates/record` and `crates/pages`, in the header and in the Rust crate; the
+//! version in the header and in `host/Cargo.toml`. This crate reads each of them and
+//! says where two differ.
 //!
 //! It reads the few forms these files use and refuses what it does not know,
 //! so that nothing is passed over.
@@ -11,6 +14,7 @@
 
 pub mod answers;
 pub mod functions;
+pub mod sizes;
 pub mod sources;
 pub mod versions;
 

@@ -3,7 +3,7 @@
 use std::fs;
 use std::path::Path;
 
-use crate::{answers, compare_answers, compare_functions, functions, versions};
+use crate::{answers, compare_answers, compare_functions, functions, sizes, versions};
 
 /// The texts that have to agree.
 #[derive(Clone, Debug)]
@@ -22,6 +22,12 @@ pub struct Sources {
     pub rust_answers: String,
     /// `host/Cargo.toml`, which has the version.
     pub cargo: String,
+    /// `crates/record/src/limits.rt`, which has the sizes of a record.
+    pub rattle_limits: String,
+    /// Every file of `crates/pages/src`, which has the size of a carry.
+    pub rattle_pages: String,
+    /// `host/emuparasol/src/record.rs` and `feed.rs`, which have the sizes.
+    pub rust_sizes: String,
 }
 
 impl Sources {
@@ -38,6 +44,10 @@ impl Sources {
             rattle_answers: text("crates/record/src/answer.rt")?,
             rust_answers: text("host/emuparasol/src/answer.rs")?,
             cargo: text("host/Cargo.toml")?,
+            rattle_limits: text("crates/record/src/limits.rt")?,
+            rattle_pages: sources_below(&top.join("crates/pages/src"))?,
+            rust_sizes: text("host/emuparasol/src/record.rs")?
+                + &text("host/emuparasol/src/feed.rs")?,
         })
     }
 
@@ -84,6 +94,20 @@ impl Sources {
             "emuparasol_answer_name",
             &header_names,
         ));
+        let happened = answers::of_bytes(&self.rattle)?;
+        for (theirs, numbers) in [
+            ("the header", answers::of_c_happened(&self.header)?),
+            ("the Rust declarations", answers::of_bytes(&self.declared)?),
+        ] {
+            found.extend(compare_answers(proved, &happened, theirs, &numbers));
+        }
+        let sizes = sizes::of_rattle(&self.rattle_limits, &self.rattle_pages)?;
+        for (theirs, others) in [
+            ("the header", sizes::of_c(&self.header)?),
+            ("the Rust crate", sizes::of_rust(&self.rust_sizes)?),
+        ] {
+            found.extend(sizes::compare(proved, &sizes, theirs, &others));
+        }
         found.extend(versions::compare(&self.header, &self.cargo)?);
         // 0 to 5 are verdicts, and all but 0 are errors.
         for (theirs, range, cases) in [
