@@ -144,23 +144,35 @@ module _ (log m carry m′ carry′ : List ℕ) (sized : length carry ≡ carryS
   pub log-breaks : r .stopped ≡ true → LogMelded log m m′ Cuts.Broken
   log-breaks b =
       record {
-        calls = p .calls;
+        carry = carry;
+        after = m′;
+        carry′ = carry′;
+        going = r;
+        fed = p;
         whole =
-            λ N Z lent made.
-            subst (λ (l : List ℕ). Whole N Z l (verdictsIn (p .calls)) Cuts.Broken m′) (append-nil log)
-            (parts-whole made sized
-            (part-breaks (subst (λ (x : Bool). PartCalls log m carry 0 (p .calls) m′ carry′ (r .carried) x) b (p .made)) (new-fit made) (such-none sized) []));
+            λ N Z lent made. (
+              p .calls,
+              subst (λ (l : List ℕ). Whole N Z l (verdictsIn (p .calls)) Cuts.Broken m′) (append-nil log)
+              (parts-whole made sized
+              (part-breaks (subst (λ (x : Bool). PartCalls log m carry 0 (p .calls) m′ carry′ (r .carried) x) b (p .made)) (new-fit made) (such-none sized) [])),
+            );
       }
 
   -- and over behind it
   pub log-ends : r .stopped ≡ false → (m″ carry″ : List ℕ) (found : Cut) → Finishes m′ carry′ (r .carried) m″ carry″ found → LogMelded log m m″ found
   log-ends b m″ carry″ found f =
       record {
-        calls = p .calls ++ (f .call ∷ []);
+        carry = carry;
+        after = m′;
+        carry′ = carry′;
+        going = r;
+        fed = p;
         whole =
             λ N Z lent made.
-            let (fit, such) = part-ready (p .made) (new-fit made) (such-none sized) in
-            subst (λ (l : List ℕ). Whole N Z l (verdictsIn (p .calls ++ (f .call ∷ []))) found m″) (append-nil log)
-            (parts-whole made sized
-            (part-then (subst (λ (x : Bool). PartCalls log m carry 0 (p .calls) m′ carry′ (r .carried) x) b (p .made)) [] (f .call ∷ []) m″ found (finished fit such f)));
+            let (fit, such) = part-ready (p .made) (new-fit made) (such-none sized) in (
+              p .calls ++ (f .call ∷ []),
+              subst (λ (l : List ℕ). Whole N Z l (verdictsIn (p .calls ++ (f .call ∷ []))) found m″) (append-nil log)
+              (parts-whole made sized
+              (part-then (subst (λ (x : Bool). PartCalls log m carry 0 (p .calls) m′ carry′ (r .carried) x) b (p .made)) [] (f .call ∷ []) m″ found (finished fit such f))),
+            );
       }

@@ -63,8 +63,12 @@ pub record Finishes (m carry : List ℕ) (carried : ℕ) (m′ carry′ : List �
   pub feeds : Feeds m carry carried [] true call m′ carry′
   pub found-is : found ≡ closedBy (call .happened)
 
--- a whole log fed from a pool that was just created, for whatever limits: it is the card of the theorems (docs/THEOREMS.md) that has melded the
--- whole log, and so it ends
+-- a whole log fed as one part, with a carry of its own and positions from 1 on (R13). From a pool that was just created, for whatever limits, it is
+-- the card of the theorems (docs/THEOREMS.md) that has melded the whole log, and ends so
 pub record LogMelded (log m m′ : List ℕ) (found : Cut) : Type 0 where
-  pub calls : List Fed
-  pub whole : (N Z : ℕ) (lent : List ℕ) → Created lent N Z committed m → Whole N Z log (verdictsIn calls) found m′
+  pub carry : List ℕ
+  pub after : List ℕ
+  pub carry′ : List ℕ
+  pub going : Going
+  pub fed : PartFed log 1 m carry 0 after carry′ going
+  pub whole : (N Z : ℕ) (lent : List ℕ) → Created lent N Z committed m → (calls : List Fed) × Whole N Z log (verdictsIn calls) found m′
