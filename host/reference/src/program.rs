@@ -2,6 +2,7 @@
 
 use crate::answer::Answer;
 use crate::log::{LogReader, Step};
+use crate::record::{LEAST_LENGTH, MOST_LENGTH};
 use crate::state::{Limits, State, Verdict};
 
 /// The largest N that the program of R41 takes.
@@ -19,6 +20,8 @@ pub struct Run {
     pub verdicts: Vec<Verdict>,
     /// Did the walk reach "end"? If not, it met 10.
     pub ended: bool,
+    /// Did it meet a length that cannot be?
+    pub impossible: bool,
 }
 
 /// The limits and the log of an input; bad limits for N or Z outside its range,
@@ -62,16 +65,27 @@ pub fn run_up_to(most: u32, input: &[u8]) -> Result<Run, Answer> {
                     state,
                     verdicts,
                     ended: true,
+                    impossible: false,
                 })
             }
             Step::Broken => {
+                let rest = &log[reader.place()..];
                 return Ok(Run {
                     state,
                     verdicts,
                     ended: false,
-                })
+                    impossible: says_impossible(rest),
+                });
             }
         }
+    }
+}
+
+/// Do these bytes begin with a length that cannot be?
+fn says_impossible(bytes: &[u8]) -> bool {
+    match bytes.first_chunk::<2>() {
+        None => false,
+        Some(two) => !(LEAST_LENGTH..=MOST_LENGTH).contains(&usize::from(u16::from_be_bytes(*two))),
     }
 }
 
@@ -91,11 +105,14 @@ pub fn lines_up_to(most: u32, input: &[u8]) -> String {
 
 /// What the program prints where its input can be read so far and no further:
 /// the lines of the records in it, and no closing line. Limits that were read and
-/// are bad end it before that.
+/// are bad end it before that, and so does a length that cannot be.
 pub fn lines_unread(most: u32, input: &[u8]) -> String {
     match run_up_to(most, input) {
         Err(_) if input.len() < 8 => String::new(),
         Err(answer) => format!("{}\n", answer.number()),
+        Ok(run) if run.impossible => {
+            format!("{}{}\n", record_lines(&run), Answer::BrokenLog.number())
+        }
         Ok(run) => record_lines(&run),
     }
 }

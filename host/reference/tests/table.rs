@@ -144,4 +144,7 @@ fn an_input_that_cannot_be_read_on_has_no_closing_line() {
     assert_eq!(lines_unread(MOST_N, &whole[..8]), "");
     assert_eq!(lines_unread(MOST_N, &whole[..7]), "");
     assert_eq!(lines_unread(MOST_N, &join(0, 4, &[])), "9\n");
+    assert_eq!(lines_unread(MOST_N, &join(3, 4, &[0])), "");
+    assert_eq!(lines_unread(MOST_N, &join(3, 4, &[0, 6])), "10\n");
+    assert_eq!(lines_unread(MOST_N, &join(3, 4, &[0, 7])), "");
 }
