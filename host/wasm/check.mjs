@@ -1,6 +1,6 @@
-// node host/wasm/check.mjs LIBRARY FOLDER: the library as a WebAssembly module, called from JavaScript, on every input of the conformance folder; as
-// conformance/check, with one start for all of them. It shows a caller's side: the module imports nothing, a length is a BigInt, and what is lent stands
-// in the module's memory, behind __heap_base. Each pool is followed by guard bytes, and no byte but the pool's may change under a meld.
+// node host/wasm/check.mjs LIBRARY FOLDER: the library as a WebAssembly module, called from JavaScript, on every input of the conformance folder but those
+// of the page form; as conformance/check, with one start for all of them. It shows a caller's side: the module imports nothing, a length is a BigInt, and
+// what is lent stands in the module's memory, behind __heap_base. Each pool is followed by guard bytes, and no byte but the pool's may change under a meld.
 import { readdirSync, readFileSync } from "node:fs";
 
 const [library, folder] = process.argv.slice(2);
@@ -41,7 +41,8 @@ function lines(input) {
 }
 
 let right = 0, wrong = 0;
-for (const name of readdirSync(folder).filter((name) => name.endsWith(".input"))) {
+const names = readdirSync(folder);
+for (const name of names.filter((name) => name.endsWith(".input") && !names.includes(name.replace(".input", ".parts")))) {
   const said = lines(readFileSync(`${folder}/${name}`)).join("\n") + "\n";
   if (said === readFileSync(`${folder}/${name.replace(".input", ".expected")}`, "utf8")) right++;
   else {

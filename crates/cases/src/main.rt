@@ -3,15 +3,17 @@
 use libc::STDIN_FILENO;
 use libc::STDOUT_FILENO;
 use lines::HEAD;
-use lines::Taken;
-use lines::meld_whole;
+use lines::feed_part;
+use lines::finish;
 use lines::open;
 use lines::print_answer;
 use lines::print_ending;
+use log::Cut;
 use record::Answer;
+use record::limits::MAX_SIZE;
 use words::word4;
 ghost use Rattle.lines.specs.Opening.{New};
-ghost use Rattle.lines.specs.Lines.{LogMelded};
+ghost use Rattle.lines.specs.Parts.{LogMelded};
 
 // The largest N, as in `verdicts`, and the bytes of a pool for it.
 const MOST_KEYS: u32 = 1000;
@@ -25,12 +27,18 @@ fn print_case(number: u64) {
     io::write_all(STDOUT_FILENO, b"\n");
 }
 
-// Melds a whole log into a new pool and prints a line for each record, with positions from 1 on.
-fn meld_log(pool: &mut [u8], log: &[u8]) -> Taken
+// Feeds a whole log to a new pool as one part, prints a line for each record, with positions from 1 on, and answers how it ends.
+fn meld_log(pool: &mut [u8], log: &[u8]) -> Cut
     requires { ⌜ New (now pool) ⌝ }
     ensures { λ r. ⌜ LogMelded (now (log .entry)) (now (pool .entry)) (now (pool .exit)) r ⌝ }
 {
-    meld_whole(pool, log, 1)
+    let mut carry = [0u8; MAX_SIZE];
+    let going = feed_part(pool, &mut carry, 0, log, 1);
+    let carried = going.carried;
+    if going.stopped {
+        return Cut::Broken;
+    }
+    finish(pool, &mut carry, carried)
 }
 
 // Prints the lines of one input.
@@ -43,9 +51,7 @@ fn print_verdicts(input: &[u8]) {
         print_answer(answer);
         return;
     }
-    let taken = meld_log(&mut pool[..size], &input[HEAD..]);
-    let found = taken.found;
-    print_ending(found);
+    print_ending(meld_log(&mut pool[..size], &input[HEAD..]));
 }
 
 // Reads one case into the bytes lent, which are as many as it has, and prints its lines.

@@ -42,6 +42,9 @@ use Rattle.refresh.specs.Refreshed.{RefreshIs}
 use Rattle.refresh.proofs.Only.{refresh-only}
 use Rattle.in_force.specs.InForce.{InForce}
 use Rattle.in_force.proofs.Only.{in-force-only}
+use Rattle.pages.specs.declared.told.Fed.{Fed}
+use Rattle.pages.specs.Pages.{Feeds}
+use Rattle.pages.proofs.Only.{only-feed}
 use Rattle.demands.specs.Answers.{OneAnswer}
 
 -- WHERE THE PROMISE IS AN EQUATION
@@ -114,6 +117,11 @@ status-one m b x y p q = only-status m x y b p q
 -- answer, looks and the whole pool
 pub meld-one : (m bytes : List ℕ) → Bytes m → OneAnswer (λ (x : Melded × List ℕ). Melds m bytes (x .1) (x .0))
 meld-one m bytes b x y p q = let e = only-meld m bytes (x .1) (y .1) (x .0) (y .0) b p q in λ i. (e .0 i, e .1 i)
+
+-- all that is told, the whole pool and the whole carry
+pub feed-one : (m carry : List ℕ) (carried : ℕ) (part : List ℕ) (over : Bool) → Bytes m
+    → OneAnswer (λ (x : Fed × List ℕ × List ℕ). Feeds m carry carried part over (x .0) (x .1) (x .2))
+feed-one m carry carried part over b x y p q = let e = only-feed b p q in λ i. (e .0 i, e .1 i, e .2 i)
 
 -- the answer and the whole output
 pub refresh-one : (m original before : List ℕ) → OneAnswer (λ (x : Answer × List ℕ). RefreshIs m original before (x .0) (x .1))

@@ -8,11 +8,11 @@ use mathlib.Core.List.{List}
 use lib.ListN.{length}
 use Rattle.record.specs.declared.answer.Answer.{Answer}
 use Rattle.record.specs.Answer.{committed}
-use Rattle.record.specs.Parse.{parse}
 use Rattle.pool.specs.Image.{Fit}
 use Rattle.create.specs.Fresh.{Created, limitsOk, freshPlan}
 use Rattle.create.proofs.Only.{created-fit}
-use Rattle.meld.specs.After.{afterIn}
+use Rattle.pages.proofs.Decided.{meld-stays-fit}
+use Rattle.pages.proofs.Refusals.{feed-stays-fit}
 use Rattle.demands.specs.Calls.{Call, Calls, none-more, one-more}
 use Rattle.demands.proofs.Cards.{created-fresh}
 
@@ -30,7 +30,8 @@ call-stays-fit {m} {m′} (Call.create n z a c) f = create-stays-fit m n z a m�
 call-stays-fit (Call.fit r d) f = f
 call-stays-fit (Call.status x s) f = f
 call-stays-fit (Call.lookup k x l) f = f
-call-stays-fit (Call.meld bytes x b h) f = record { arrangement = afterIn (f .arrangement) (parse bytes); image = h .fit (f .arrangement) (f .image) .leaves }
+call-stays-fit (Call.meld bytes x b h) f = meld-stays-fit h f
+call-stays-fit (Call.feed carry carried part over r carry′ b d h) f = feed-stays-fit h f
 call-stays-fit (Call.refresh original before after a b c h) f = f
 
 -- and so do several

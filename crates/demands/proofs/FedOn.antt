@@ -27,7 +27,7 @@ use Rattle.pages.specs.Pages.{bytesIn, cannotBe, wholeIn, recordIn, feedRow}
 use Rattle.pages.specs.Pages.{FeedRow, wrongCarry, stuck, cannotGoOn, recordWhole, goesOn, atEnd, torn, RecordDecided, FeedsAs, Feeds}
 use Rattle.pages.proofs.Rows.{row-facts, may-join, cannot-tells, no-both}
 use Rattle.pages.proofs.Fronts.{Such, length-in, new-length, record-goes-on}
-use Rattle.pages.proofs.Decided.{taken-is, carried-is, fit-answers, verdict-said}
+use Rattle.pages.proofs.Decided.{taken-is, carried-is, fit-answers, verdict-said, verdict-taken}
 use Rattle.pages.proofs.Carries.{such-left}
 use Rattle.demands.specs.Runs.{ReadingOn, Card, isOver, Whole}
 use Rattle.demands.specs.Feeding.{verdictIn, verdictsIn, endingIn, FedSoFar}
@@ -111,13 +111,15 @@ module _ {N Z : ℕ} {log : List ℕ} {rs : List Fed} {taken : ℕ} {m carry : L
         let e = in-front n in
         let f′ : cannotBe (take k (drop (c .place) log)) ≡ false = ap cannotBe (sym e) ∙ can in
         let w′ : wholeIn (take k (drop (c .place) log)) ≡ true = ap wholeIn (sym e) ∙ whole in
-        let x = verdict-said d (fit-answers (d .melds) (card-fit (c .card))) in
+        let u = fit-answers (d .melds) (card-fit (c .card)) in
+        let x = verdict-said d u in
+        let up-to = verdict-taken d u (omega (arith, record-goes-on fed-such part none-stuck)) in
         let melds : Melds m (partOf (Cuts.Record (pastAt log (c .place))) log (c .place)) m′ (d .melded) =
         subst (λ (b : List ℕ). Melds m b m′ (d .melded)) (ap recordIn e ∙ record-handed log (c .place) k f′ w′) (d .melds) in
         let read = read-last (c .card .read) (record-stands log (c .place) k f′ w′) melds in
         let past : pastAt log (c .place) ≡ c .place + pastAt (bytesIn carry carried part) 0 =
         record-past log (c .place) k f′ w′ ∙ ap (λ (b : List ℕ). c .place + pastAt b 0) (sym e) in
-        let on : pastAt log (c .place) + r .carried ≡ taken + r .taken = omega (arith, past, taken-is x, carried-is x, c .taken-is, record-goes-on fed-such part none-stuck) in
+        let on : pastAt log (c .place) + r .carried ≡ taken + r .taken = omega (arith, past, up-to, carried-is x, c .taken-is) in
         let s = such-left fed-such f in
         record {
           place = pastAt log (c .place);
@@ -166,7 +168,7 @@ module _ {N Z : ℕ} {log : List ℕ} {rs : List Fed} {taken : ℕ} {m carry : L
         go atEnd e l = unmoved _ (l .said) refl (l .pool) (l .carry-is) refl (omega (arith, eqb-true (carried + length part) 0 (row-facts atEnd carry carried part over e .5)))
         go torn e l = unmoved _ (l .said) refl (l .pool) (l .carry-is) refl refl
 
-    -- where the call says how the log ends, that stands at the card's place, and nothing has changed
+    -- where the call says how the log ends, that stands at the card's place; pool and verdicts are as before
     pub ended-so : (over ≡ true → length log ≤ taken + n) → (last : Cut) → endingIn (r .happened) ≡ some last
         → Whole N Z log (verdictsIn rs) last m × (m′ ≡ m) × (verdictsIn (rs ++ (r ∷ [])) ≡ verdictsIn rs)
     ended-so all last ending = go (feedRow carry carried part over) refl (f .as-said)

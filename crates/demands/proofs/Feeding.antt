@@ -50,7 +50,7 @@ module _ {N Z : ℕ} {lent new log carry : List ℕ} (made : Created lent N Z co
       pub never-8-or-7 : (r .happened ≡ Refused outputShort → ⊥) × (r .happened ≡ Refused unfitPool → ⊥)
       never-8-or-7 = let c = fed-is-a-card run in (such-never-8 (call .feeds) (fed-such c), fit-never-7 (call .feeds) (card-fit (c .card)))
 
-      -- where a call says how the log ends, every record was decided before it, and the log ends so; the call has changed nothing
+      -- where a call says how the log ends, every record was decided before it, and the log ends so; pool and verdicts are as before
       pub fed-ending : (last : Cut) → endingIn (r .happened) ≡ some last
           → Whole N Z log (verdictsIn rs) last m × (m′ ≡ m) × (verdictsIn (rs ++ (r ∷ [])) ≡ verdictsIn rs)
       fed-ending = ended-so (fed-is-a-card run) (call .n) (call .over) (call .feeds) (call .all-of-it)

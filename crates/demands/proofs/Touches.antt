@@ -8,11 +8,12 @@ use mathlib.Core.Option.{Option, none, some}
 use mathlib.Core.List.{List, map}
 use native.Mathlib.Omega.{arith}
 use native.Mathlib.Decide.{ℕ-discrete}
-use lib.ListN.{length, getD, drop, length-append, length-drop, length-map}
-use lib.Seq.{getD-append-add, getD-drop}
-use lib.Dec.{leb}
+use lib.ListN.{length, getD, take, drop, length-append, length-drop, length-map, List·getD-append}
+use lib.Seq.{getD-append-add, getD-drop, getD-take, take-take, take-at, length-take-le}
+use lib.Dec.{leb, eqb}
 use borrow.Author.Tests.{leb-true, eqb-true}
 use Rattle.words.specs.Word.{Bytes}
+use Rattle.words.specs.Choice.{if_then_else_}
 use Rattle.record.specs.declared.answer.Answer.{Answer}
 use Rattle.record.specs.declared.reader.Reading.{Reading}
 use Rattle.record.specs.Answer as Names
@@ -20,10 +21,11 @@ use Rattle.record.specs.Record.{Rec, bytesOf, kindOf, keyOf, payloadOf}
 use Rattle.record.specs.Parse.{parse}
 use Rattle.record.specs.Reader.{Lists, front, lowOf, highOf, roomy, readOf}
 use Rattle.record.specs.Reader as Reader
-use Rattle.record.proofs.Cases.{and-split}
+use Rattle.record.proofs.Cases.{by-case, and-split}
 use Rattle.writer.specs.declared.Written.{Written}
 use Rattle.writer.specs.Writer.{recordOf, writeOf}
 use Rattle.writer.specs.Writer as Writer
+use Rattle.log.specs.Log.{pastAt}
 use Rattle.rules.specs.State.{State}
 use Rattle.rules.specs.Verdict.{Verdict, committed, conflict, tooOld, noRoom, malformed, ahead, positionsUsedUp, verdictAnswer, verdict, pointsOf, next, left}
 use Rattle.pool.specs.Image.{Arrangement, Image, Fit, stateOf}
@@ -37,7 +39,17 @@ use Rattle.meld.proofs.AfterState.{after-state}
 use Rattle.refresh.specs.Refreshed.{RefreshOutcome, RefreshIs}
 use Rattle.refresh.proofs.Only.{untouched}
 use Rattle.refresh.proofs.Output.{FrontIs, after-zero}
-use Rattle.demands.specs.Touches.{Within, positionFrom, positionTo, CreateTouches, MeldTouches, RefreshTouches, WriteTouches, ReadTouches}
+use Rattle.pages.specs.declared.told.Happened.{Happened}
+use Rattle.pages.specs.declared.told.Happened.the-variants.{Decided, Refused, More, End}
+use Rattle.pages.specs.declared.told.Fed.{Fed}
+use Rattle.pages.specs.Pages.{bytesIn, cannotBe, wholeIn, recordIn, feedRow, isUnfit}
+use Rattle.pages.specs.Pages.{FeedRow, wrongCarry, stuck, cannotGoOn, recordWhole, goesOn, atEnd, torn, FeedsAs, Feeds}
+use Rattle.pages.proofs.Rows.{row-facts, cannot-tells}
+use Rattle.pages.proofs.Fronts.{Such, such-lent, held, length-in, new-length, record-goes-on, record-size, record-fits, begun-fits}
+use Rattle.pages.proofs.Decided.{happened-is, taken-is, unfit-said, verdict-said, verdict-taken, verdict-carry}
+use Rattle.pages.proofs.CarryBytes.{in-bytes, record-bytes}
+use Rattle.pages.proofs.Refusals.{said-else}
+use Rattle.demands.specs.Touches.{Within, positionFrom, positionTo, CreateTouches, MeldTouches, FeedTouches, RefreshTouches, WriteTouches, ReadTouches}
 use Rattle.demands.proofs.Following.{parsed-valid}
 use Rattle.demands.proofs.Position.{position-alone}
 
@@ -239,3 +251,98 @@ module _ (m original before : List ℕ) (lent : Bytes m) (b : Bytes original) (a
           front-within (A .p) (after-zero (stateOf A) (f .image .arranged .lawful .last) original before b a after (h .fit A (f .image)) z)
       go (yes f) (no n) = within-nothing 0 (length original) before after (untouched m original before a after h n)
       go (no u) d = within-nothing 0 (length original) before after (ap (λ (o : RefreshOutcome). o .output) (h .unfit u))
+
+-- FEED
+
+-- a number for what happened that tells decided from the rest
+abbrev decision : Happened → ℕ
+decision (Decided a) = 1
+decision (Refused a) = 0
+decision More = 0
+decision End = 0
+
+decided-same : {a b : Answer} → Decided a ≡ Decided b → a ≡ b
+decided-same e = cc
+
+-- bytes at a carry's front that begin with those carried
+front-behind : (carry vs : List ℕ) (carried : ℕ) → carried ≤ length vs → length vs ≤ length carry → take carried vs ≡ take carried carry
+    → Within carried (length vs) carry (front vs carry)
+front-behind carry vs carried few room same = let w = within-front vs carry room in record {
+  size = w .size;
+  others = λ i x. ⊎-elim
+      (λ (l : i < carried). List·getD-append vs (drop (length vs) carry) 0 i (omega arith) ∙ sym (getD-take carried vs i 0 l)
+      ∙ ap (λ (s : List ℕ). getD s i 0) same ∙ getD-take carried carry i 0 l)
+      (λ (g : length vs ≤ i). w .others i (inr g)) x;
+}
+
+module _ (m carry : List ℕ) (carried : ℕ) (part : List ℕ) (over : Bool) (lent : Bytes m) (b : Bytes carry) (d : Bytes part) (r : Fed) (m′ carry′ : List ℕ) where
+  -- the first of what is in are the bytes carried
+  begins : Such carry carried → (n : ℕ) → carried ≤ n → take carried (take n (bytesIn carry carried part)) ≡ take carried carry
+  begins s n h = take-take carried n (bytesIn carry carried part) h ∙ take-at (take carried carry) part carried (held s)
+
+  -- no record was decided: the pool is as it was
+  no-record : (x : Fed) → r ≡ x → decision (x .happened) ≡ 0 → m′ ≡ m → Within carried (carried + x .taken) carry carry′
+      → ((r .happened ≡ Refused Names.outputShort) ⊎ (r .happened ≡ Refused Names.unfitPool) → carry′ ≡ carry) → FeedTouches m carry carried r m′ carry′
+  no-record x e none-decided same w refused = record {
+    decided = λ a y. absurd (omega (arith, none-decided, ap decision (sym (happened-is e) ∙ y)));
+    undecided = λ _. same;
+    taken = subst (λ (n : ℕ). Within carried (carried + n) carry carry′) (sym (taken-is e)) w;
+    refusal = λ y. (same, refused y);
+  }
+
+  -- nothing has changed at all
+  no-byte : (x : Fed) → r ≡ x → decision (x .happened) ≡ 0 → m′ ≡ m → carry′ ≡ carry → FeedTouches m carry carried r m′ carry′
+  no-byte x e none-decided same kept = no-record x e none-decided same (within-nothing carried (carried + x .taken) carry carry′ kept) (λ _. kept)
+
+  -- bytes that are in are at the carry's front
+  put-front : Such carry carried → (vs : List ℕ) (taken : ℕ) → length vs ≡ carried + taken → length vs ≤ length carry → take carried vs ≡ take carried carry
+      → carry′ ≡ front vs carry → Within carried (carried + taken) carry carry′
+  put-front s vs taken size room same e =
+      subst (λ (c : List ℕ). Within carried (carried + taken) carry c) (sym e)
+      (subst (λ (n : ℕ). Within carried n carry (front vs carry)) size (front-behind carry vs carried (omega (arith, size)) room same))
+
+  pub feed-touches : Feeds m carry carried part over r m′ carry′ → FeedTouches m carry carried r m′ carry′
+  feed-touches f = go (feedRow carry carried part over) refl (f .as-said)
+    where
+      bytes : List ℕ
+      bytes = bytesIn carry carried part
+
+      go : (row : FeedRow) → feedRow carry carried part over ≡ row → FeedsAs row m carry carried part r m′ carry′ → FeedTouches m carry carried r m′ carry′
+      go wrongCarry e l = no-byte _ (l .said) refl (l .pool) (l .carry-is)
+      go stuck e l = no-byte _ (l .said) refl (l .pool) (l .carry-is)
+      go cannotGoOn e l =
+          let t = row-facts cannotGoOn carry carried part over e in
+          let s = such-lent carry carried (t .0) in
+          let new : carried < 2 = new-length s part (t .1) (t .2) in
+          let size : length (take 2 bytes) ≡ 2 = length-take-le 2 bytes (cannot-tells bytes (t .2) .0) in
+          no-record _ (l .said) refl (l .pool) (put-front s (take 2 bytes) (2 - carried) (omega (arith, size)) (omega (arith, size, s .sized)) (begins s 2 (omega arith)) (l .carry-is))
+          (λ y. absurd (⊎-elim (said-else Names.outputShort (l .said) refl (λ n. omega arith)) (said-else Names.unfitPool (l .said) refl (λ n. omega arith)) y))
+      go recordWhole e x = let t = row-facts recordWhole carry carried part over e in by-answer (such-lent carry carried (t .0)) (t .1) (t .2) (t .3)
+        where
+          past : Such carry carried → cannotBe (take carried carry) ≡ false → cannotBe bytes ≡ false → wholeIn bytes ≡ true
+              → carry′ ≡ (if eqb carried 0 then carry else front (recordIn bytes) carry) → carried + r .taken ≡ pastAt bytes 0 → Within carried (carried + r .taken) carry carry′
+          past s t₁ t₂ t₃ k up-to =
+              by-case (eqb carried 0) (λ z. within-nothing carried (carried + r .taken) carry carry′ (simp z at k)) λ z.
+              put-front s (recordIn bytes) (r .taken) (record-size bytes t₂ t₃ ∙ sym up-to) (omega (arith, record-size bytes t₂ t₃, record-fits bytes t₂ t₃, s .sized))
+              (begins s (pastAt bytes 0) (omega (arith, up-to))) (simp z at k)
+
+          by-answer : Such carry carried → cannotBe (take carried carry) ≡ false → cannotBe bytes ≡ false → wholeIn bytes ≡ true → FeedTouches m carry carried r m′ carry′
+          by-answer s t₁ t₂ t₃ =
+              by-case (isUnfit (x .melded)) (λ u. let y = unfit-said x u in no-byte _ (y .0) refl (y .1) (y .2)) λ u.
+              let v = verdict-said x u in
+              let touches = meld-touches m (recordIn bytes) lent (record-bytes bytes (in-bytes carry carried part b d)) m′ (x .melded) (x .melds) in
+              record {
+                decided = λ a y. subst (λ (k : Answer). MeldTouches m k m′) (decided-same (sym (happened-is v) ∙ y)) touches;
+                undecided = λ n. absurd (n (x .melded .answer) (happened-is v));
+                taken = past s t₁ t₂ t₃ (verdict-carry x u) (verdict-taken x u (omega (arith, record-goes-on s part t₁)));
+                refusal = λ y. absurd (⊎-elim (said-else Names.outputShort v refl (λ n. omega arith)) (said-else Names.unfitPool v refl (λ n. omega arith)) y);
+              }
+      go goesOn e l =
+          let t = row-facts goesOn carry carried part over e in
+          let s = such-lent carry carried (t .0) in
+          let size : length bytes ≡ carried + length part = length-in s part in
+          no-record _ (l .said) refl (l .pool)
+          (put-front s bytes (length part) size (omega (arith, begun-fits bytes (t .2) (t .3), s .sized)) (take-at (take carried carry) part carried (held s)) (l .carry-is))
+          (λ y. absurd (⊎-elim (said-else Names.outputShort (l .said) refl (λ n. omega arith)) (said-else Names.unfitPool (l .said) refl (λ n. omega arith)) y))
+      go atEnd e l = no-byte _ (l .said) refl (l .pool) (l .carry-is)
+      go torn e l = no-byte _ (l .said) refl (l .pool) (l .carry-is)

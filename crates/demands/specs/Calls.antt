@@ -15,6 +15,8 @@ use Rattle.meld.specs.Lookups.{LooksUp}
 use Rattle.meld.specs.Statuses.{StatusIs}
 use Rattle.meld.specs.Melds.{Melds}
 use Rattle.refresh.specs.Refreshed.{RefreshIs}
+use Rattle.pages.specs.declared.told.Fed.{Fed}
+use Rattle.pages.specs.Pages.{Feeds}
 
 -- R20: one call that bytes are lent to as a pool, with anything else lent beside them: the bytes before and after it. It answers whatever
 -- its promise allows. `fit`, `status`, `lookup` and `refresh` are lent the pool by `&`, so it stays as it is.
@@ -24,6 +26,8 @@ pub data Call : List ℕ → List ℕ → Type 0 where
   status : {m : List ℕ} (x : Status) → StatusIs m x → Call m m
   lookup : {m : List ℕ} (k : ℕ) (x : Lookup) → LooksUp m k x → Call m m
   meld : {m m′ : List ℕ} (bytes : List ℕ) (x : Melded) → Bytes bytes → Melds m bytes m′ x → Call m m′
+  feed : {m m′ : List ℕ} (carry : List ℕ) (carried : ℕ) (part : List ℕ) (over : Bool) (r : Fed) (carry′ : List ℕ) → Bytes carry → Bytes part
+      → Feeds m carry carried part over r m′ carry′ → Call m m′
   refresh : {m : List ℕ} (original before after : List ℕ) (a : Answer) → Bytes original → Bytes before → RefreshIs m original before a after → Call m m
 
 -- R20: zero or more calls, one after the other

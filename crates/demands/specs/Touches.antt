@@ -1,16 +1,18 @@
 -- Demand 1: which lent bytes can differ at exit, by the answer. Functions that are lent everything by `&` change nothing: `check`, `cut`,
 -- `part`, `fit`, `status`, `lookup`, `in_force`.
 -- Assumes nothing: these are definitions.
-use Prim.Native.Nat.{ℕ, _≤_, _<_}
+use Prim.Native.Nat.{ℕ, _+_, _≤_, _<_}
 use mathlib.Core.Path.{_≡_}
 use mathlib.Core.Logic.{_⊎_}
 use mathlib.Core.List.{List}
 use lib.ListN.{length, getD}
 use Rattle.record.specs.declared.answer.Answer.{Answer}
 use Rattle.record.specs.declared.reader.Reading.{Reading}
-use Rattle.record.specs.Answer.{committed, positionsUsedUp, unfitPool, badLimits}
+use Rattle.record.specs.Answer.{committed, positionsUsedUp, unfitPool, outputShort, badLimits}
 use Rattle.record.specs.Reader.{Lists}
 use Rattle.writer.specs.declared.Written.{Written}
+use Rattle.pages.specs.declared.told.Happened.the-variants.{Decided, Refused}
+use Rattle.pages.specs.declared.told.Fed.{Fed}
 
 -- R42: no more than the elements from .. to − 1 can differ, and there are as many as before
 pub record Within (from to : ℕ) (before after : List ℕ) : Type 0 where
@@ -36,6 +38,14 @@ pub record MeldTouches (m : List ℕ) (a : Answer) (m′ : List ℕ) : Type 0 wh
   pub refusal : (a ≡ unfitPool) ⊎ (a ≡ positionsUsedUp) → m′ ≡ m
   pub abort : (a ≡ committed → ⊥) → Within positionFrom positionTo m m′
   pub commit : length m′ ≡ length m
+
+-- R42: `feed`: the pool where a record is decided, as `meld` does; of the carry no more than the bytes taken, behind those carried; on 8 and 7
+-- neither
+pub record FeedTouches (m carry : List ℕ) (carried : ℕ) (r : Fed) (m′ carry′ : List ℕ) : Type 0 where
+  pub decided : (a : Answer) → r .happened ≡ Decided a → MeldTouches m a m′
+  pub undecided : ((a : Answer) → r .happened ≡ Decided a → ⊥) → m′ ≡ m
+  pub taken : Within carried (carried + r .taken) carry carry′
+  pub refusal : (r .happened ≡ Refused outputShort) ⊎ (r .happened ≡ Refused unfitPool) → (m′ ≡ m) × (carry′ ≡ carry)
 
 -- R42: `refresh`: nothing unless 0; then the front of the output, as long as the original
 pub record RefreshTouches (original before : List ℕ) (a : Answer) (after : List ℕ) : Type 0 where

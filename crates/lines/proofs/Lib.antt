@@ -1,3 +1,4 @@
 pub mod Openings
 pub mod Limits
-pub mod Fronts
+mod Calling
+pub mod Parted

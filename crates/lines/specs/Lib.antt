@@ -1,2 +1,2 @@
 pub mod Opening
-pub mod Lines
+pub mod Parts

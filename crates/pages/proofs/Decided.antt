@@ -1,7 +1,7 @@
 -- What is left of a call when the record's last byte is in: with 7 nothing has changed, and any other answer is a verdict of meld.
 -- Assumes nothing.
-use Prim.Native.Nat.{ℕ, _-_, _<_}
-use mathlib.Core.Path.{_≡_, ap}
+use Prim.Native.Nat.{ℕ, _+_, _≤_, _<_}
+use mathlib.Core.Path.{_≡_, sym, ap, _∙_}
 use mathlib.Core.Bool.{true, false}
 use mathlib.Core.List.{List}
 use native.Mathlib.Omega.{arith}
@@ -19,7 +19,7 @@ use Rattle.meld.specs.After.{afterIn}
 use Rattle.meld.specs.Melds.{Melds}
 use Rattle.pages.specs.declared.told.Happened.the-variants.{Decided}
 use Rattle.pages.specs.declared.told.Fed.{Fed}
-use Rattle.pages.specs.Pages.{recordIn, refusing, isUnfit, RecordDecided}
+use Rattle.pages.specs.Pages.{recordIn, refusing, isUnfit, fedBy, RecordDecided}
 use Rattle.pages.proofs.Rows.{no-both}
 
 -- what is given back, field by field
@@ -58,10 +58,15 @@ module _ {m carry : List ℕ} {carried : ℕ} {bytes : List ℕ} {r : Fed} {m′
   pub unfit-said : isUnfit (d .melded) ≡ true → (r ≡ refusing unfitPool carried) × (m′ ≡ m) × (carry′ ≡ carry)
   unfit-said u = (simp u at (d .said), d .melds .unfit (λ f. no-both u (fit-answers (d .melds) f)) .unchanged, simp u at (d .carry-is))
 
-  -- any other answer is the record's verdict
-  pub verdict-said : isUnfit (d .melded) ≡ false
-      → r ≡ record { happened = Decided (d .melded .answer); looks = d .melded .looks; taken = pastAt bytes 0 - carried; carried = 0 }
-  verdict-said u = simp u at (d .said)
+  -- any other answer is the record's verdict, and nothing is carried then
+  pub verdict-said : isUnfit (d .melded) ≡ false → r ≡ record { happened = Decided (d .melded .answer); looks = d .melded .looks; taken = r .taken; carried = 0 }
+  verdict-said u =
+      let e = simp u at (d .said) in
+      e ∙ ap (λ (y : Fed). record { happened = Decided (d .melded .answer); looks = d .melded .looks; taken = y .taken; carried = 0 }) (sym e)
+
+  -- what was carried and what is taken make up the record
+  pub verdict-taken : isUnfit (d .melded) ≡ false → carried ≤ pastAt bytes 0 → carried + r .taken ≡ pastAt bytes 0
+  verdict-taken u h = let e : r .taken ≡ fedBy (d .melded) carried bytes .taken = taken-is (d .said) in omega (arith, simp u at e)
 
   pub verdict-carry : isUnfit (d .melded) ≡ false → carry′ ≡ (if eqb carried 0 then carry else front (recordIn bytes) carry)
   verdict-carry u = simp u at (d .carry-is)

@@ -3,17 +3,18 @@
 use Prim.Native.Nat.{ℕ, _+_, _≤_, _<_}
 use mathlib.Core.Path.{_≡_, sym, ap, _∙_}
 use mathlib.Core.Logic.{_⊎_, inl, inr, ⊎-elim}
-use mathlib.Core.Bool.{true, false}
+use mathlib.Core.Bool.{true, false, _&&_}
 use mathlib.Core.List.{List, _++_}
 use native.Mathlib.Omega.{arith}
 use native.Mathlib.Decide.{decLt}
+use lib.Dec.{eqb}
 use lib.ListN.{length, take, drop, length-append, length-drop, List·getD-append}
 use lib.Seq.{getD-take, length-take-le}
 use Rattle.words.specs.Laws.{word-same}
 use Rattle.record.specs.Reader.{front}
 use Rattle.log.specs.Log.{lengthAt, pastAt}
 use Rattle.pages.specs.Pages.{carrySize, impossible, mayCarry, bytesIn, cannotBe, wholeIn, recordIn}
-use Rattle.pages.proofs.Rows.{possible-tells, cannot-is, can-tells, cannot-tells, whole-tells, not-whole-tells, may-tells, no-both}
+use Rattle.pages.proofs.Rows.{possible-tells, cannot-is, can-tells, cannot-tells, whole-tells, not-whole-tells, may-tells, may-split, no-both}
 
 -- THE LENGTH THAT TWO BYTES SAY
 
@@ -35,6 +36,10 @@ length-front vs l h = omega (arith, length-append vs (drop (length vs) l), lengt
 pub record Such (carry : List ℕ) (carried : ℕ) : Type 0 where
   pub sized : length carry ≡ carrySize
   pub may : mayCarry carry carried ≡ true
+
+-- the first row of R47 lets no other pass
+pub such-lent : (carry : List ℕ) (carried : ℕ) → (eqb (length carry) carrySize && mayCarry carry carried) ≡ true → Such carry carried
+such-lent carry carried t = let (x, y) = may-split carry carried t in record { sized = x; may = y }
 
 module _ {carry : List ℕ} {carried : ℕ} (s : Such carry carried) where
   -- never as many as there is room for

@@ -15,9 +15,9 @@ use Rattle.pages.specs.declared.told.Happened.the-variants.{Refused}
 use Rattle.pages.specs.declared.told.Fed.{Fed}
 use Rattle.pages.specs.Pages.{bytesIn, feedRow, isUnfit}
 use Rattle.pages.specs.Pages.{FeedRow, wrongCarry, stuck, cannotGoOn, recordWhole, goesOn, atEnd, torn, FeedsAs, Feeds}
-use Rattle.pages.proofs.Rows.{row-facts, cannot-tells, whole-tells, may-split}
-use Rattle.pages.proofs.Fronts.{Such, record-goes-on}
-use Rattle.pages.proofs.Decided.{happened-is, taken-is, unfit-said, verdict-said}
+use Rattle.pages.proofs.Rows.{row-facts, cannot-tells, whole-tells}
+use Rattle.pages.proofs.Fronts.{such-lent, record-goes-on}
+use Rattle.pages.proofs.Decided.{happened-is, taken-is, unfit-said, verdict-taken}
 
 module _ {m carry : List ℕ} {carried : ℕ} {part : List ℕ} {over : Bool} {r : Fed} {m′ carry′ : List ℕ} (f : Feeds m carry carried part over r m′ carry′) where
   -- no more is in than was carried and is lent
@@ -36,8 +36,9 @@ module _ {m carry : List ℕ} {carried : ℕ} {part : List ℕ} {over : Bool} {r
           omega (arith, taken-is (l .said), cannot-tells (bytesIn carry carried part) (t .2) .0, in-few)
       go recordWhole e d =
           let t = row-facts recordWhole carry carried part over e in
+          let on = record-goes-on (such-lent carry carried (t .0)) part (t .1) in
           by-case (isUnfit (d .melded)) (λ u. omega (arith, taken-is (unfit-said d u .0))) λ u.
-          omega (arith, taken-is (verdict-said d u), whole-tells (bytesIn carry carried part) (t .3) .1, in-few)
+          omega (arith, verdict-taken d u (omega (arith, on)), whole-tells (bytesIn carry carried part) (t .3) .1, in-few)
       go goesOn e l = omega (arith, taken-is (l .said))
       go atEnd e l = omega (arith, taken-is (l .said))
       go torn e l = omega (arith, taken-is (l .said))
@@ -54,10 +55,9 @@ module _ {m carry : List ℕ} {carried : ℕ} {part : List ℕ} {over : Bool} {r
       go cannotGoOn e l = inr (inr (inr (happened-is (l .said))))
       go recordWhole e d =
           let t = row-facts recordWhole carry carried part over e in
-          let (sized, may) = may-split carry carried (t .0) in
-          let s : Such carry carried = record { sized = sized; may = may } in
+          let on = record-goes-on (such-lent carry carried (t .0)) part (t .1) in
           by-case (isUnfit (d .melded)) (λ u. inr (inr (inl (happened-is (unfit-said d u .0))))) λ u.
-          inl (omega (arith, taken-is (verdict-said d u), record-goes-on s part (t .1)))
+          inl (omega (arith, verdict-taken d u (omega (arith, on)), on))
       go goesOn e l = inl (omega (arith, taken-is (l .said)))
       go atEnd e l = absurd (omega (arith, eqb-true (carried + length part) 0 (row-facts atEnd carry carried part over e .5)))
       go torn e l = inr (inr (inr (happened-is (l .said))))

@@ -2,12 +2,11 @@
 -- Assumes nothing.
 use Prim.Native.Nat.{ℕ, _≤_}
 use mathlib.Core.Path.{_≡_, refl, sym, ap, _∙_}
-use mathlib.Core.Bool.{Bool, true, false}
+use mathlib.Core.Bool.{false}
 use mathlib.Core.Logic.{inl, inr}
 use mathlib.Core.List.{List}
 use native.Mathlib.Omega.{arith}
 use lib.ListN.{length, take}
-use Rattle.log.specs.declared.found.Cut.{Cut}
 use Rattle.record.specs.declared.answer.Answer.{Answer}
 use Rattle.record.specs.Answer.{badLimits}
 use Rattle.lines.specs.Opening.{sizeFor, InRange}
@@ -15,7 +14,8 @@ use Rattle.lines.proofs.Limits.{in-range-0, in-range-or-9}
 use Rattle.stream.specs.declared.closing.Ending.{Ending}
 use Rattle.stream.specs.declared.closing.Ending.the-variants.{Limits, Log, Unread}
 use Rattle.stream.specs.declared.input.Filled.{Filled}
-use Rattle.stream.specs.Turns.{endingOf}
+use Rattle.stream.specs.declared.turns.Progress.{Progress}
+use Rattle.stream.specs.Turns.{Closes, broken, unread, over}
 use Rattle.stream.specs.Runs.{Head, Runs, limits-unread, refused, melded}
 
 -- 1 for an answer to the limits, else 0
@@ -25,9 +25,10 @@ limitsTold (Log found) = 0
 limitsTold Unread = 0
 
 -- a log does not end with an answer to the limits
-log-ending : (failed : Bool) (found : Cut) → limitsTold (endingOf failed found) ≡ 0
-log-ending true found = refl
-log-ending false found = refl
+log-ending : {p : Progress} {m carry m′ : List ℕ} {last : Ending} → Closes p m carry m′ last → limitsTold last ≡ 0
+log-ending (broken s) = refl
+log-ending (unread s f) = refl
+log-ending (over s f k) = refl
 
 -- the answer to the limits that is told
 abbrev answerIn : Ending → Answer
@@ -50,8 +51,8 @@ pub limits-say-9 : {most : ℕ} {m m′ : List ℕ} {last : Ending} (a : Answer)
 limits-say-9 a bounded enough (limits-unread h f) e =
     let z : _≡_ {A = ℕ} 0 1 = ap limitsTold e in
     absurd (omega (arith, z))
-limits-say-9 a bounded enough (melded h f o z s) e =
-    let z : _≡_ {A = ℕ} 0 1 = sym (ap limitsTold (s .last-is) ∙ log-ending (s .progress .failed) (s .found)) ∙ ap limitsTold e in
+limits-say-9 a bounded enough (melded h f o z c s) e =
+    let z : _≡_ {A = ℕ} 0 1 = sym (log-ending (s .closes)) ∙ ap limitsTold e in
     absurd (omega (arith, z))
 limits-say-9 {most} {m} a bounded enough (refused {head} {m′} {r} {asked} h f o n) e =
     let out : InRange most (take (r .held) head) → ⊥ = λ k. n (ap (λ (x : Answer). x .number) (in-range-0 most m _ asked m′ o bounded enough k)) in

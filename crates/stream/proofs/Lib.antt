@@ -1,5 +1,5 @@
-pub mod Moves
 pub mod Telling
 pub mod Turning
 pub mod Running
 pub mod Closings
+pub mod Paged

@@ -4,7 +4,8 @@ use Prim.Native.Nat.{ℕ}
 use mathlib.Core.Path.{_≡_, refl}
 use mathlib.Core.Bool.{true, false}
 use mathlib.Core.List.{List, _++_}
-use lib.ListN.{take, drop, replicate}
+use lib.ListN.{length, take, drop, replicate}
+use Rattle.pages.specs.Pages.{carrySize}
 use Rattle.lines.specs.declared.opening.Asked.{Asked}
 use Rattle.lines.specs.Opening.{Opens}
 use Rattle.stream.specs.declared.closing.Ending.{Ending}
@@ -29,6 +30,6 @@ module _ (most : ℕ) (m head : List ℕ) (r : Filled) (f : FilledUp (replicate 
   ends-refused m′ asked e o n = refused limits e o n
 
   -- the log was melded
-  pub ends-melded : (m′ new buffer buffer′ : List ℕ) (asked : Asked) (last : Ending) → r .failed ≡ false → Opens most m (take (r .held) head) asked m′
-      → asked .answer .number ≡ 0 → Streamed (take (asked .size) m′) buffer new buffer′ last → Runs most m (new ++ drop (asked .size) m′) last
-  ends-melded m′ new buffer buffer′ asked last e o z s = melded limits e o z s
+  pub ends-melded : (m′ new carry page : List ℕ) (asked : Asked) (last : Ending) → r .failed ≡ false → Opens most m (take (r .held) head) asked m′
+      → asked .answer .number ≡ 0 → length carry ≡ carrySize → Streamed (take (asked .size) m′) carry page new last → Runs most m (new ++ drop (asked .size) m′) last
+  ends-melded m′ new carry page asked last e o z c s = melded limits e o z c s

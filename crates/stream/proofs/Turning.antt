@@ -1,68 +1,100 @@
--- The turns of the program, one after the other: what the loop that makes them knows at its test, and what it has made in the end.
+-- The turns of the program, one after the other: what the loop that makes them knows at its test, and how it closes.
 -- Assumes nothing.
 use Prim.Native.Nat.{ℕ, _+_, _-_, _≤_, _<_}
 use mathlib.Core.Path.{_≡_, refl, sym, ap, _∙_}
-use mathlib.Core.Bool.{Bool, true, false}
+use mathlib.Core.Bool.{Bool, true, false, not, true≢false}
 use mathlib.Core.Logic.{_⊎_, inl, inr}
-use mathlib.Core.List.{List}
+use mathlib.Core.List.{List, [], _∷_, _++_}
 use native.Mathlib.Omega.{arith}
-use lib.ListN.{length, take}
+use lib.Dec.{eqb}
+use lib.ListN.{length, take, length-append}
+use Rattle.words.specs.Choice.{if_then_else_}
 use Rattle.log.specs.declared.found.Cut.{Cut}
-use Rattle.log.specs.Log.{cutAt, CutIs}
+use Rattle.log.specs.declared.found.Cut.the-variants.{Broken}
+use Rattle.pages.specs.declared.told.Fed.{Fed}
+use Rattle.lines.specs.declared.parts.Going.{Going}
+use Rattle.lines.specs.Parts.{PartFed, Finishes}
 use Rattle.stream.specs.declared.closing.Ending.{Ending}
 use Rattle.stream.specs.declared.closing.Ending.the-variants.{Log, Unread}
+use Rattle.stream.specs.declared.input.Filled.{Filled}
 use Rattle.stream.specs.declared.turns.Progress.{Progress}
-use Rattle.stream.specs.Turns.{TurnIs, Turns, none-yet, one-more, endingOf, Streamed}
+use Rattle.stream.specs.Buffer.{Refilled}
+use Rattle.stream.specs.Turns.{moreBy, progressBy, TurnIs, Turns, none-yet, one-more, Closes, broken, unread, over, Streamed}
 
--- some turns were made, and so many are left
-pub record Turned (m b : List ℕ) (held position : ℕ) (more failed : Bool) (left : ℕ) (m′ b′ : List ℕ) : Type 0 where
-  pub turns : ℕ
-  pub made : Turns m b turns (record { held = held; position = position; more = more; failed = failed }) m′ b′
-  pub all : turns + left ≡ 18446744073709551615
-  pub inside : held ≤ length b′
-  pub as-long : length b′ ≡ length b
+-- where the log goes on, another page may follow one that is not empty
+pub goes-by-size : (held : ℕ) (stopped : Bool) → stopped ≡ false → not (eqb held 0) ≡ moreBy held stopped
+goes-by-size held stopped e = sym (ap (λ (x : Bool). if x then false else not (eqb held 0)) e)
 
--- none at first
-pub turned-none : (m b : List ℕ) → Turned m b 0 1 true false 18446744073709551615 m b
-turned-none m b = record { turns = 0; made = none-yet; all = refl; inside = omega arith; as-long = refl }
-
--- one more
-pub turned-on : (m b : List ℕ) (held position : ℕ) (more failed : Bool) (left : ℕ) (m′ b′ : List ℕ) → Turned m b held position more failed left m′ b′
-    → more ≡ true → 0 < left → (m″ b″ : List ℕ) (p : Progress) → TurnIs held position m′ b′ m″ b″ p → length b″ ≡ length b′
-    → Turned m b (p .held) (p .position) (p .more) (p .failed) (left - 1) m″ b″
-turned-on m b held position more failed left m′ b′ t on some m″ b″ p k long =
+-- a page read and fed
+pub turn : (carried position : ℕ) (m carry page m′ carry′ page′ : List ℕ) (read : Filled) (going : Going) (more : Bool) → Refilled 0 page page′ read
+    → PartFed (take (read .held) page′) position m carry carried m′ carry′ going → more ≡ moreBy (read .held) (going .stopped)
+    → TurnIs carried position m carry page m′ carry′ page′
+    (record { carried = going .carried; position = going .position; more = more; failed = read .failed; stopped = going .stopped })
+turn carried position m carry page m′ carry′ page′ read going more f p e =
     record {
-      turns = t .turns + 1;
-      made = one-more (t .made) on k;
-      all = omega (arith, t .all);
-      inside = omega (arith, k .rest .count, k .refilled .most, k .refilled .as-long, long);
-      as-long = long ∙ t .as-long;
+      read = read;
+      going = going;
+      refilled = f;
+      fed = p;
+      progress-is =
+          ap (λ (x : Bool). record { carried = going .carried; position = going .position; more = x; failed = read .failed; stopped = going .stopped }) e;
     }
 
--- a turn brought nothing, or none is left to make
+-- some turns were made, and so many are left
+pub record Turned (m carry page : List ℕ) (carried position : ℕ) (more failed stopped : Bool) (left : ℕ) (m′ carry′ page′ : List ℕ) : Type 0 where
+  pub pages : List (List ℕ)
+  pub calls : List Fed
+  pub made : Turns m carry page pages calls (record { carried = carried; position = position; more = more; failed = failed; stopped = stopped }) m′ carry′ page′
+  pub all : length pages + left ≡ 18446744073709551615
+
+-- none at first
+pub turned-none : (m carry page : List ℕ) → Turned m carry page 0 1 true false false 18446744073709551615 m carry page
+turned-none m carry page = record { pages = []; calls = []; made = none-yet; all = refl }
+
+-- one more
+pub turned-on : (m carry page : List ℕ) (carried position : ℕ) (more failed stopped : Bool) (left : ℕ) (m′ carry′ page′ : List ℕ)
+    → Turned m carry page carried position more failed stopped left m′ carry′ page′ → more ≡ true → 0 < left → (m″ carry″ page″ : List ℕ) (p : Progress)
+    → TurnIs carried position m′ carry′ page′ m″ carry″ page″ p
+    → Turned m carry page (p .carried) (p .position) (p .more) (p .failed) (p .stopped) (left - 1) m″ carry″ page″
+turned-on m carry page carried position more failed stopped left m′ carry′ page′ t on some m″ carry″ page″ p k =
+    record {
+      pages = t .pages ++ (take (k .read .held) page″ ∷ []);
+      calls = t .calls ++ k .fed .calls;
+      made = one-more (t .made) on k;
+      all = omega (arith, t .all, length-append (t .pages) (take (k .read .held) page″ ∷ []));
+    }
+
+-- no page may follow, or no turn is left to make
 pub ended-by : (more : Bool) (left : ℕ) → (more ≡ false) ⊎ (left ≤ 0) → more ≡ true → left ≡ 0
-ended-by more left (inl f) e = let z : _≡_ {A = ℕ} 0 1 = cc in absurd (omega arith)
+ended-by more left (inl f) e = absurd (true≢false (sym e ∙ f))
 ended-by more left (inr h) e = omega arith
 
-module _ (m b : List ℕ) (held position : ℕ) (more failed : Bool) (left : ℕ) (m′ b′ : List ℕ) (t : Turned m b held position more failed left m′ b′)
-    (ended : more ≡ true → left ≡ 0) where
+module _ (m carry page : List ℕ) (carried position : ℕ) (more failed stopped : Bool) (left : ℕ) (m′ carry′ page′ : List ℕ)
+    (t : Turned m carry page carried position more failed stopped left m′ carry′ page′) (ended : more ≡ true → left ≡ 0) where
   -- where the loop ends
-  closes : (found : Cut) (last : Ending) → CutIs (take held b′) 0 found → last ≡ endingOf failed found → Streamed m b m′ b′ last
-  closes found last is e =
+  closing : (m″ : List ℕ) (last : Ending) → Closes (record { carried = carried; position = position; more = more; failed = failed; stopped = stopped }) m′ carry′ m″ last
+      → Streamed m carry page m″ last
+  closing m″ last c =
       record {
-        turns = t .turns;
-        progress = record { held = held; position = position; more = more; failed = failed };
+        pages = t .pages;
+        calls = t .calls;
+        progress = record { carried = carried; position = position; more = more; failed = failed; stopped = stopped };
+        after = m′;
+        carry′ = carry′;
+        page′ = page′;
         made = t .made;
         until = λ e. omega (arith, t .all, ended e);
-        found = found;
-        found-is = is;
-        last-is = e;
+        closes = c;
       }
 
+  -- the log does not go on
+  pub streamed-broken : stopped ≡ true → Streamed m carry page m′ (Log Broken)
+  streamed-broken e = closing m′ (Log Broken) (broken e)
+
   -- a read failed
-  pub streamed-unread : failed ≡ true → Streamed m b m′ b′ Unread
-  streamed-unread e = closes (cutAt (take held b′) 0) Unread (record { told = refl }) (sym (ap (λ (x : Bool). endingOf x (cutAt (take held b′) 0)) e))
+  pub streamed-unread : stopped ≡ false → failed ≡ true → Streamed m carry page m′ Unread
+  streamed-unread e f = closing m′ Unread (unread e f)
 
   -- none failed
-  pub streamed : (found : Cut) → failed ≡ false → CutIs (take held b′) 0 found → Streamed m b m′ b′ (Log found)
-  streamed found e is = closes found (Log found) is (sym (ap (λ (x : Bool). endingOf x found) e))
+  pub streamed-over : stopped ≡ false → failed ≡ false → (m″ carry″ : List ℕ) (found : Cut) → Finishes m′ carry′ carried m″ carry″ found → Streamed m carry page m″ (Log found)
+  streamed-over e f m″ carry″ found k = closing m″ (Log found) (over e f k)

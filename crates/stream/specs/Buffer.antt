@@ -1,12 +1,12 @@
--- The buffer between standard input and the log: bytes are read behind those held, and what was not taken moves to the front (R41).
+-- Reading from standard input: bytes are read behind those held (R41).
 -- What a read brings is not said: no definition can speak of a program's input. What is made of the number that it answers is said.
 -- Assumes nothing: these are definitions.
 use Prim.Native.Nat.{ℕ, _+_, _-_, _≤_}
 use mathlib.Core.Path.{_≡_}
 use mathlib.Core.Bool.{Bool, true, false}
-use mathlib.Core.List.{List, _++_}
+use mathlib.Core.List.{List}
 use lib.IntN.{ℤ, pos, negsuc}
-use lib.ListN.{length, take, drop}
+use lib.ListN.{length, take}
 use Rattle.io.specs.Counts.{clamped}
 use Rattle.stream.specs.declared.input.Filled.{Filled}
 
@@ -39,12 +39,3 @@ pub data FilledUp (before : List ℕ) : List ℕ → Filled → Type 0 where
   full : {after : List ℕ} {held : ℕ} → Reads before held after → length before ≤ held → FilledUp before after (record { held = held; failed = false })
   stopped : {held : ℕ} {after after′ : List ℕ} {r : Filled}
       → Reads before held after → Refilled held after after′ r → r .held ≡ held → FilledUp before after′ r
-
--- the buffer with the bytes from `taken` to `filled` at its front, and its other bytes as they were
-abbrev pub restInFront : ℕ → ℕ → List ℕ → List ℕ
-restInFront taken filled buffer = take (filled - taken) (drop taken buffer) ++ drop (filled - taken) buffer
-
--- what was not taken is at the front, every byte of it once and in order, and the count is how many they are
-pub record RestKept (taken filled : ℕ) (before after : List ℕ) (r : ℕ) : Type 0 where
-  pub count : r ≡ filled - taken
-  pub bytes : after ≡ restInFront taken filled before

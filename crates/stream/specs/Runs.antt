@@ -5,6 +5,7 @@ use mathlib.Core.Path.{_≡_}
 use mathlib.Core.Bool.{true, false}
 use mathlib.Core.List.{List, _++_}
 use lib.ListN.{length, take, drop}
+use Rattle.pages.specs.Pages.{carrySize}
 use Rattle.lines.specs.declared.opening.Asked.{Asked}
 use Rattle.lines.specs.Opening.{Opens}
 use Rattle.stream.specs.declared.closing.Ending.{Ending}
@@ -27,7 +28,7 @@ pub data Runs (most : ℕ) (m : List ℕ) : List ℕ → Ending → Type 0 where
   refused : {head m′ : List ℕ} {r : Filled} {asked : Asked}
       → Head head r → r .failed ≡ false → Opens most m (take (r .held) head) asked m′ → (asked .answer .number ≡ 0 → ⊥)
       → Runs most m m′ (Limits (asked .answer))
-  melded : {head m′ new buffer buffer′ : List ℕ} {r : Filled} {asked : Asked} {last : Ending}
+  melded : {head m′ new carry page : List ℕ} {r : Filled} {asked : Asked} {last : Ending}
       → Head head r → r .failed ≡ false → Opens most m (take (r .held) head) asked m′ → asked .answer .number ≡ 0
-      → Streamed (take (asked .size) m′) buffer new buffer′ last
+      → length carry ≡ carrySize → Streamed (take (asked .size) m′) carry page new last
       → Runs most m (new ++ drop (asked .size) m′) last

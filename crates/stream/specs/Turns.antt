@@ -1,56 +1,74 @@
--- A turn of the program: one read, the lines of the records that are whole then, and the rest kept for the next (R41, R46).
+-- The program page by page: what a read brings is fed, and then comes the next (R41, R46, R47).
 -- Assumes nothing: these are definitions.
-use Prim.Native.Nat.{ℕ, _+_}
+use Prim.Native.Nat.{ℕ}
 use mathlib.Core.Path.{_≡_}
 use mathlib.Core.Bool.{Bool, true, false, not}
-use mathlib.Core.List.{List}
+use mathlib.Core.List.{List, [], _∷_, _++_}
 use lib.Dec.{eqb}
-use lib.ListN.{take}
+use lib.ListN.{length, take}
+use Rattle.words.specs.Choice.{if_then_else_}
 use Rattle.log.specs.declared.found.Cut.{Cut}
-use Rattle.log.specs.Log.{CutIs}
-use Rattle.lines.specs.declared.whole.Taken.{Taken}
-use Rattle.lines.specs.Lines.{FrontOf}
+use Rattle.log.specs.declared.found.Cut.the-variants.{Broken}
+use Rattle.pages.specs.declared.told.Fed.{Fed}
+use Rattle.lines.specs.declared.parts.Going.{Going}
+use Rattle.lines.specs.Parts.{PartFed, Finishes}
 use Rattle.stream.specs.declared.closing.Ending.{Ending}
 use Rattle.stream.specs.declared.closing.Ending.the-variants.{Log, Unread}
 use Rattle.stream.specs.declared.input.Filled.{Filled}
 use Rattle.stream.specs.declared.turns.Progress.{Progress}
-use Rattle.stream.specs.Buffer.{Refilled, RestKept}
+use Rattle.stream.specs.Buffer.{Refilled}
 
--- from a pool and a buffer with some bytes held on: the buffer once a read has filled so much of it, the records at the front of that melded,
--- the rest kept, the position that comes next, whether the read brought anything, and whether it failed
-pub record TurnIs (held position : ℕ) (m before m′ after : List ℕ) (r : Progress) : Type 0 where
-  pub buffer : List ℕ
+-- whether another page may follow one of so many bytes: not behind an empty one, nor where the log does not go on
+abbrev pub moreBy : ℕ → Bool → Bool
+moreBy held stopped = if stopped then false else not (eqb held 0)
+
+-- how far a page that was read and fed leaves the program
+abbrev pub progressBy : Filled → Going → Progress
+progressBy read going =
+    record {
+      carried = going .carried;
+      position = going .position;
+      more = moreBy (read .held) (going .stopped);
+      failed = read .failed;
+      stopped = going .stopped;
+    }
+
+-- a turn: the page once a read has filled so much of it, and that much of it fed
+pub record TurnIs (carried position : ℕ) (m carry page m′ carry′ page′ : List ℕ) (r : Progress) : Type 0 where
   pub read : Filled
-  pub taken : Taken
-  pub refilled : Refilled held before buffer read
-  pub melded : FrontOf (take (read .held) buffer) position m m′ taken
-  pub rest : RestKept (taken .bytes) (read .held) buffer after (r .held)
-  pub position-is : r .position ≡ taken .position
-  pub more-is : r .more ≡ not (eqb (read .held) held)
-  pub failed-is : r .failed ≡ read .failed
+  pub going : Going
+  pub refilled : Refilled 0 page page′ read
+  pub fed : PartFed (take (read .held) page′) position m carry carried m′ carry′ going
+  pub progress-is : r ≡ progressBy read going
 
--- nothing held, position 1, and the input neither at its end nor failed
+-- nothing carried, position 1, and the input neither at its end nor failed
 abbrev pub atFirst : Progress
-atFirst = record { held = 0; position = 1; more = true; failed = false }
+atFirst = record { carried = 0; position = 1; more = true; failed = false; stopped = false }
 
--- so many turns one after the other, each from where the one before it ended, and only after one that brought something
-pub data Turns (m buffer : List ℕ) : ℕ → Progress → List ℕ → List ℕ → Type 0 where
-  none-yet : Turns m buffer 0 atFirst m buffer
-  one-more : {n : ℕ} {p p′ : Progress} {m′ m″ b′ b″ : List ℕ}
-      → Turns m buffer n p m′ b′ → p .more ≡ true → TurnIs (p .held) (p .position) m′ b′ m″ b″ p′ → Turns m buffer (n + 1) p′ m″ b″
+-- turns one after the other, each from where the one before it ended, and only where another page may follow: what the reads brought, the calls
+-- made, and how far the program is then
+pub data Turns (m carry page : List ℕ) : List (List ℕ) → List Fed → Progress → List ℕ → List ℕ → List ℕ → Type 0 where
+  none-yet : Turns m carry page [] [] atFirst m carry page
+  one-more : {pages : List (List ℕ)} {calls : List Fed} {p p′ : Progress} {m′ carry′ page′ m″ carry″ page″ : List ℕ}
+      → Turns m carry page pages calls p m′ carry′ page′ → p .more ≡ true
+      → (t : TurnIs (p .carried) (p .position) m′ carry′ page′ m″ carry″ page″ p′)
+      → Turns m carry page (pages ++ (take (t .read .held) page″ ∷ [])) (calls ++ t .fed .calls) p′ m″ carry″ page″
 
--- how a log ends: where a read failed that alone is told, else what stands behind its last record
-abbrev pub endingOf : Bool → Cut → Ending
-endingOf true found = Unread
-endingOf false found = Log found
+-- how a run of turns closes: broken where the log does not go on; where a read failed that alone is told; else the log is said to be over, and ends so
+pub data Closes (p : Progress) (m carry : List ℕ) : List ℕ → Ending → Type 0 where
+  broken : p .stopped ≡ true → Closes p m carry m (Log Broken)
+  unread : p .stopped ≡ false → p .failed ≡ true → Closes p m carry m Unread
+  over : {m′ carry′ : List ℕ} {found : Cut}
+      → p .stopped ≡ false → p .failed ≡ false → Finishes m carry (p .carried) m′ carry′ found → Closes p m carry m′ (Log found)
 
--- turns until one brings nothing (or 18,446,744,073,709,551,615 were made), and then whether its read failed, and if not, what stands at the
--- front of the bytes held
-pub record Streamed (m buffer m′ buffer′ : List ℕ) (last : Ending) : Type 0 where
-  pub turns : ℕ
+-- turns until no page may follow (or 18,446,744,073,709,551,615 were made), and how that closes
+pub record Streamed (m carry page m′ : List ℕ) (last : Ending) : Type 0 where
+  pub pages : List (List ℕ)
+  pub calls : List Fed
   pub progress : Progress
-  pub made : Turns m buffer turns progress m′ buffer′
-  pub until : progress .more ≡ true → turns ≡ 18446744073709551615
-  pub found : Cut
-  pub found-is : CutIs (take (progress .held) buffer′) 0 found
-  pub last-is : last ≡ endingOf (progress .failed) found
+  pub after : List ℕ
+  pub carry′ : List ℕ
+  pub page′ : List ℕ
+  pub made : Turns m carry page pages calls progress after carry′ page′
+  pub until : progress .more ≡ true → length pages ≡ 18446744073709551615
+  pub closes : Closes progress after carry′ m′ last

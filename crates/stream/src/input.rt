@@ -1,9 +1,9 @@
-// The buffer between standard input and the log: filled from behind, emptied from the front.
+// Reading from standard input into lent bytes.
 use libc::STDIN_FILENO;
 ghost use mathlib.Core.Path.{_≡_};
 ghost use Prim.Native.Nat.{_≤_};
 ghost use lib.ListN.{length};
-ghost use Rattle.stream.specs.Buffer.{filledBy, Refilled, FilledUp, RestKept};
+ghost use Rattle.stream.specs.Buffer.{filledBy, Refilled, FilledUp};
 
 // How many bytes are held at the front of a buffer after a read, and whether the read failed.
 pub struct Filled {
@@ -48,19 +48,4 @@ pub fn fill(buffer: &mut [u8]) -> Filled
         held,
         failed: false,
     }
-}
-
-// Moves the bytes from `taken` to `filled` to the front of the buffer, and answers how many they are.
-pub fn keep_rest(buffer: &mut [u8], taken: usize, filled: usize) -> usize
-    requires { ⌜ filled ≤ length (now buffer) ⌝ }
-    ensures { λ r. ⌜ RestKept taken filled (now (buffer .entry)) (now (buffer .exit)) r ⌝ }
-{
-    let mut from = taken;
-    let mut to = 0;
-    while from < filled {
-        buffer[to] = buffer[from];
-        from += 1;
-        to += 1;
-    }
-    to
 }

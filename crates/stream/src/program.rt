@@ -5,6 +5,7 @@ use crate::turns::meld_through;
 use lines::HEAD;
 use lines::open;
 use record::Answer;
+use record::limits::MAX_SIZE;
 ghost use Rattle.stream.specs.Runs.{Runs};
 
 // Reads the limits from standard input, makes the pool that they ask for out of the bytes lent, for an N up to the largest, and melds the log
@@ -24,6 +25,7 @@ pub fn meld_input(pool: &mut [u8], most: u32) -> Ending
     if answer.number != Answer::COMMITTED.number {
         return Ending::Limits(answer);
     }
-    let mut buffer = io::buffer();
-    meld_through(&mut pool[..size], &mut buffer)
+    let mut carry = [0u8; MAX_SIZE];
+    let mut page = io::buffer();
+    meld_through(&mut pool[..size], &mut carry, &mut page)
 }

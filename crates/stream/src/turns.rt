@@ -1,60 +1,80 @@
-// The log on standard input, melded in turns: a read, the records that are whole then, and the rest kept for the next turn.
+// The log on standard input, fed page by page: a page is what one read brings.
 use crate::closing::Ending;
-use crate::input::keep_rest;
 use crate::input::refill;
-use lines::meld_whole;
-use log::cut;
-ghost use Prim.Native.Nat.{_≤_};
-ghost use lib.ListN.{length};
-ghost use Rattle.stream.specs.Turns.{TurnIs, Streamed};
+use lines::feed_part;
+use lines::finish;
+use log::Cut;
+ghost use mathlib.Core.Path.{_≡_};
+ghost use Rattle.stream.specs.Turns.{moreBy, TurnIs, Streamed};
 
-// How far the program is: the bytes held at the front of the buffer, the position of the record that begins there, whether the last read
-// brought anything, and whether it failed.
+// How far the program is: the bytes carried, the position of the record that comes next, whether another page may follow, whether the last
+// read failed, and whether the log does not go on.
 pub struct Progress {
-    pub held: usize,
+    pub carried: usize,
     pub position: u64,
     pub more: bool,
     pub failed: bool,
+    pub stopped: bool,
 }
 
-// Reads once, melds the records that are whole now, and keeps the bytes behind them. Nothing more comes at the end of the input, where the
-// read fails, or where the buffer is full with no whole record at its front.
-fn read_on(pool: &mut [u8], buffer: &mut [u8], held: usize, position: u64) -> Progress
-    requires { ⌜ held ≤ length (now buffer) ⌝ }
-    ensures { λ r. ⌜ TurnIs held position (now (pool .entry)) (now (buffer .entry)) (now (pool .exit)) (now (buffer .exit)) r ⌝ }
+// Whether another page may follow one of so many bytes: not behind an empty one, nor where the log does not go on.
+fn more_after(held: usize, stopped: bool) -> bool
+    ensures { λ r. ⌜ r ≡ moreBy held stopped ⌝ }
 {
-    let read = refill(buffer, held);
-    let filled = read.held;
-    let taken = meld_whole(pool, &buffer[..filled], position);
-    let rest = keep_rest(buffer, taken.bytes, filled);
+    if stopped {
+        return false;
+    }
+    held != 0
+}
+
+// Reads a page and feeds it.
+fn read_on(
+    pool: &mut [u8],
+    carry: &mut [u8],
+    page: &mut [u8],
+    carried: usize,
+    position: u64,
+) -> Progress
+    ensures { λ r. ⌜ TurnIs carried position (now (pool .entry)) (now (carry .entry)) (now (page .entry)) (now (pool .exit)) (now (carry .exit)) (now (page .exit)) r ⌝ }
+{
+    let read = refill(page, 0);
+    let held = read.held;
+    let going = feed_part(pool, carry, carried, &page[..held], position);
+    let stopped = going.stopped;
     Progress {
-        held: rest,
-        position: taken.position,
-        more: filled != held,
+        carried: going.carried,
+        position: going.position,
+        more: more_after(held, stopped),
         failed: read.failed,
+        stopped,
     }
 }
 
-// Melds the log on standard input, from where it stands, through a buffer, and answers what stands behind its last record, or that a read
-// failed. A proved loop has to end, so it counts its turns down from a number that no run uses up.
-pub fn meld_through(pool: &mut [u8], buffer: &mut [u8]) -> Ending
-    ensures { λ r. ⌜ Streamed (now (pool .entry)) (now (buffer .entry)) (now (pool .exit)) (now (buffer .exit)) r ⌝ }
+// Feeds the log on standard input, from where it stands, page by page, and answers how it ends, or that a read failed. A length that cannot be
+// ends it at once. A proved loop has to end, so it counts its turns down from a number that no run uses up.
+pub fn meld_through(pool: &mut [u8], carry: &mut [u8], page: &mut [u8]) -> Ending
+    ensures { λ r. ⌜ Streamed (now (pool .entry)) (now (carry .entry)) (now (page .entry)) (now (pool .exit)) r ⌝ }
 {
-    let mut held = 0;
+    let mut carried = 0;
     let mut position: u64 = 1;
     let mut more = true;
     let mut failed = false;
+    let mut stopped = false;
     let mut turns = u64::MAX;
     while turns > 0 && more {
         turns -= 1;
-        let progress = read_on(pool, buffer, held, position);
-        held = progress.held;
+        let progress = read_on(pool, carry, page, carried, position);
+        carried = progress.carried;
         position = progress.position;
         more = progress.more;
         failed = progress.failed;
+        stopped = progress.stopped;
+    }
+    if stopped {
+        return Ending::Log(Cut::Broken);
     }
     if failed {
         return Ending::Unread;
     }
-    Ending::Log(cut(&buffer[..held], 0))
+    Ending::Log(finish(pool, carry, carried))
 }

@@ -19,6 +19,15 @@ pub struct Case {
     pub input: Vec<u8>,
 }
 
+/// A case of the page form (R47): an input whose log is fed in parts.
+#[derive(Clone, Debug)]
+pub struct InParts {
+    /// The input, its name and what it is about.
+    pub case: Case,
+    /// The sizes of the parts.
+    pub sizes: Vec<usize>,
+}
+
 /// Every case of the gate, in a fixed order.
 pub fn all() -> Vec<Case> {
     [ideas::all(), edges::all()].concat()

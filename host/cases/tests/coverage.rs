@@ -2,9 +2,11 @@
 
 use std::collections::BTreeSet;
 
-use cases::{all, ideas, sequence, Case};
+use cases::{all, ideas, sequence, Case, InParts};
+use compare::mistaken::feed::{self, FeedMistake};
 use compare::mistaken::{lines, Mistake};
 use reference::log::parts;
+use reference::pages;
 use reference::program::{self, run, split};
 use reference::{Flaw, Record};
 
@@ -28,6 +30,51 @@ fn the_conformance_set_catches_every_mistake() {
 fn a_third_way_to_the_answers_agrees_on_every_case() {
     for case in all() {
         assert!(!shows(&case, None), "{}", case.name);
+    }
+}
+
+/// Does a page form with this mistake print something else for this case?
+fn shows_in_parts(InParts { case, sizes }: &InParts, mistake: Option<FeedMistake>) -> bool {
+    feed::lines(mistake, &case.input, sizes) != pages::lines(&case.input, sizes)
+}
+
+#[test]
+fn the_conformance_set_in_parts_catches_every_mistake_that_lines_show() {
+    let cases = ideas::parts::all();
+    for case in &cases {
+        assert!(!shows_in_parts(case, None), "{}", case.case.name);
+    }
+    for &mistake in FeedMistake::ALL {
+        let caught = cases
+            .iter()
+            .filter(|case| shows_in_parts(case, Some(mistake)));
+        let names: Vec<&str> = caught.map(|case| case.case.name.as_str()).collect();
+        println!("{}: {}", mistake.words(), names.join(", "));
+        let shown = !FeedMistake::IN_CALLS_ONLY.contains(&mistake);
+        assert_eq!(!names.is_empty(), shown, "{}", mistake.words());
+    }
+}
+
+/// What is decided in parts is what is decided of the log walked at once.
+#[test]
+fn cases_in_parts_have_the_verdicts_of_the_whole_log() {
+    for InParts { case, sizes } in ideas::parts::all() {
+        let printed = pages::lines(&case.input, &sizes);
+        let calls: Vec<&str> = printed.lines().collect();
+        let (last, calls) = calls.split_last().expect("there is a line");
+        let decided = calls.iter().filter(|line| !line.starts_with("more"));
+        let verdicts: Vec<Vec<&str>> = decided
+            .map(|line| line.split(' ').take(2).collect())
+            .collect();
+        let whole = program::lines(&case.input);
+        let lines: Vec<&str> = whole.lines().collect();
+        let (ending, records) = lines.split_last().expect("there is a line");
+        let wanted: Vec<Vec<&str>> = records
+            .iter()
+            .map(|line| line.split(' ').skip(1).collect())
+            .collect();
+        assert_eq!(verdicts, wanted, "{}", case.name);
+        assert_eq!(last.split(' ').next(), Some(*ending), "{}", case.name);
     }
 }
 
@@ -67,7 +114,8 @@ fn every_flaw_is_there() {
 #[test]
 fn names_differ_and_fit_a_file() {
     let mut seen = BTreeSet::new();
-    for case in all() {
+    let in_parts = ideas::parts::all().into_iter().map(|parts| parts.case);
+    for case in all().into_iter().chain(in_parts) {
         let fits =
             |letter: char| letter.is_ascii_lowercase() || letter.is_ascii_digit() || letter == '-';
         assert!(case.name.chars().all(fits), "{}", case.name);

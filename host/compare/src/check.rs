@@ -1,9 +1,10 @@
 //! The comparison of a program's lines with the reference's.
 
 use crate::setting::Setting;
+use crate::trial::Trial;
 
-/// A program: an input to what it prints, or why it prints nothing.
-pub type Program<'a> = dyn Fn(&[u8]) -> Result<String, String> + Sync + 'a;
+/// A program: what it is tried on to what it prints, or why it prints nothing.
+pub type Program<'a> = dyn Fn(&Trial) -> Result<String, String> + Sync + 'a;
 
 /// The first line that differs.
 #[derive(Clone, Debug, PartialEq, Eq)]
@@ -16,10 +17,10 @@ pub struct Difference {
     pub found: String,
 }
 
-/// The first difference between the program and the reference on this input.
-pub fn difference(setting: Setting, program: &Program<'_>, input: &[u8]) -> Option<Difference> {
-    let expected = setting.lines(input);
-    match program(input) {
+/// The first difference between the program and the reference on this trial.
+pub fn difference(setting: Setting, program: &Program<'_>, trial: &Trial) -> Option<Difference> {
+    let expected = setting.lines(trial);
+    match program(trial) {
         Ok(found) => first_difference(&expected, &found),
         Err(found) => Some(Difference {
             line: 1,

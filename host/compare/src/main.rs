@@ -6,18 +6,22 @@
 use std::collections::BTreeMap;
 use std::io::{self, Write};
 use std::ops::Range;
-use std::path::Path;
 use std::process::ExitCode;
 use std::sync::atomic::{AtomicBool, AtomicU64, Ordering};
 use std::sync::Mutex;
 use std::thread;
 
 use compare::check::{difference, Program};
+use compare::generate;
 use compare::options::{parse, Task, USAGE};
+use compare::process::Command;
 use compare::setting::Setting;
 use compare::shrink;
+use compare::trial::Trial;
+use reference::pages::{self, sizes_text};
 use reference::program;
 use reference::words::{hex, input_words_up_to};
+use reference::{Answer, Said, State};
 
 fn main() -> ExitCode {
     let arguments: Vec<String> = std::env::args().skip(1).collect();
@@ -27,11 +31,13 @@ fn main() -> ExitCode {
             seeds,
             jobs,
             setting,
-        }) => compare(setting, &program, seeds, jobs),
-        Some(Task::Input(setting, seed)) => match io::stdout().write_all(&setting.input(seed)) {
-            Ok(()) => ExitCode::SUCCESS,
-            Err(_) => ExitCode::FAILURE,
-        },
+        }) => compare(setting, program, seeds, jobs),
+        Some(Task::Input(setting, seed)) => print(&setting.input(seed)),
+        Some(Task::Sizes(seed)) => {
+            let trials = generate::in_parts(seed);
+            let sizes = trials.first().and_then(|trial| trial.sizes.as_deref());
+            print(sizes_text(sizes.unwrap_or(&[])).as_bytes())
+        }
         None => {
             eprintln!("{USAGE}");
             ExitCode::from(2)
@@ -39,19 +45,27 @@ fn main() -> ExitCode {
     }
 }
 
+fn print(bytes: &[u8]) -> ExitCode {
+    match io::stdout().write_all(bytes) {
+        Ok(()) => ExitCode::SUCCESS,
+        Err(_) => ExitCode::FAILURE,
+    }
+}
+
 /// How often each last word of a line was seen.
 type Tally = BTreeMap<String, u64>;
 
 /// Compares on all seeds; status 1 at a difference.
-fn compare(setting: Setting, path: &Path, seeds: Range<u64>, jobs: usize) -> ExitCode {
-    let Ok(path) = path.canonicalize() else {
-        eprintln!("compare: no program at {}", path.display());
+fn compare(setting: Setting, mut program: Command, seeds: Range<u64>, jobs: usize) -> ExitCode {
+    let Ok(path) = program.path.canonicalize() else {
+        eprintln!("compare: no program at {}", program.path.display());
         return ExitCode::from(2);
     };
+    program.path = path;
     println!("seeds {}..{}", seeds.start, seeds.end);
-    let program = |input: &[u8]| setting.output(&path, input);
+    let program = |trial: &Trial| setting.output(&program, trial);
     let (differing, tally) = first_differing(setting, &program, seeds.clone(), jobs);
-    let Some(seed) = differing else {
+    let Some((seed, trial)) = differing else {
         for (what, count) in tally {
             println!("{count:>8} {what}");
         }
@@ -61,17 +75,18 @@ fn compare(setting: Setting, path: &Path, seeds: Range<u64>, jobs: usize) -> Exi
         );
         return ExitCode::SUCCESS;
     };
-    report(setting, &program, seed);
+    report(setting, &program, seed, &trial);
     ExitCode::FAILURE
 }
 
-/// The lowest differing seed that was found, and what the logs before it had.
+/// The lowest differing seed that was found, with what differs of it, and what
+/// the logs before it had.
 fn first_differing(
     setting: Setting,
     program: &Program<'_>,
     seeds: Range<u64>,
     jobs: usize,
-) -> (Option<u64>, Tally) {
+) -> (Option<(u64, Trial)>, Tally) {
     let next = AtomicU64::new(seeds.start);
     let stop = AtomicBool::new(false);
     let found = Mutex::new((None, Tally::new()));
@@ -82,13 +97,17 @@ fn first_differing(
             if seed >= seeds.end {
                 break;
             }
-            let input = setting.input(seed);
-            if difference(setting, program, &input).is_some() {
-                stop.store(true, Ordering::Relaxed);
-                let mut found = found.lock().expect("no thread panics");
-                found.0 = Some(found.0.map_or(seed, |other: u64| other.min(seed)));
+            for trial in setting.trials(seed) {
+                count(setting, &trial, &mut tally);
+                if difference(setting, program, &trial).is_some() {
+                    stop.store(true, Ordering::Relaxed);
+                    let first = &mut found.lock().expect("no thread panics").0;
+                    if !matches!(first, Some((other, _)) if *other < seed) {
+                        *first = Some((seed, trial));
+                    }
+                    break;
+                }
             }
-            count(setting, &input, &mut tally);
         }
         let mut found = found.lock().expect("no thread panics");
         for (what, count) in tally {
@@ -103,15 +122,18 @@ fn first_differing(
     found.into_inner().expect("no thread panics")
 }
 
-/// Counts the answers of a log and how it ends.
-fn count(setting: Setting, input: &[u8], tally: &mut Tally) {
+/// Counts the answers of a log and how it ends, or what its calls say.
+fn count(setting: Setting, trial: &Trial, tally: &mut Tally) {
     let mut add = |what: String| *tally.entry(what).or_default() += 1;
-    match program::run_up_to(setting.most(), input) {
-        Err(answer) => add(format!("logs {} {}", answer.number(), answer.name())),
-        Ok(run) => {
+    let named = |answer: Answer| format!("{} {}", answer.number(), answer.name());
+    match (
+        program::run_up_to(setting.most(), &trial.input),
+        &trial.sizes,
+    ) {
+        (Err(answer), _) => add(format!("logs {}", named(answer))),
+        (Ok(run), None) => {
             for verdict in run.verdicts {
-                let answer = verdict.answer;
-                add(format!("records {} {}", answer.number(), answer.name()));
+                add(format!("records {}", named(verdict.answer)));
             }
             add(if setting.unread {
                 "logs unread"
@@ -122,23 +144,38 @@ fn count(setting: Setting, input: &[u8], tally: &mut Tally) {
             }
             .to_string());
         }
+        (Ok(run), Some(sizes)) => {
+            let mut state = State::new(run.state.limits());
+            for fed in pages::calls(&mut state, &pages::cut(&trial.input[8..], sizes)) {
+                add(match fed.said {
+                    Said::Answer(answer) => format!("calls {}", named(answer)),
+                    Said::More => "calls more".to_string(),
+                    Said::End => "calls end".to_string(),
+                });
+            }
+            add("logs cut in a way".to_string());
+        }
     }
 }
 
 /// The seed, the smallest log found that differs, and where it differs.
-fn report(setting: Setting, program: &Program<'_>, seed: u64) {
-    let input = setting.input(seed);
+fn report(setting: Setting, program: &Program<'_>, seed: u64, trial: &Trial) {
     println!("seed {seed} differs; looking for a small log");
-    let mut differs = |smaller: &[u8]| difference(setting, program, smaller).is_some();
-    let small = shrink::shrink(setting.most(), &input, &mut differs);
+    let mut differs = |smaller: &Trial| difference(setting, program, smaller).is_some();
+    let small = shrink::shrink(setting.most(), trial, &mut differs);
     println!(
         "the input in hex, {} bytes of {}:",
-        small.len(),
-        input.len()
+        small.input.len(),
+        trial.input.len()
     );
-    println!("{}", hex(&small));
+    println!("{}", hex(&small.input));
     println!("in words, with the answers of the reference:");
-    print!("{}", input_words_up_to(setting.most(), &small));
+    print!("{}", input_words_up_to(setting.most(), &small.input));
+    if let Some(sizes) = &small.sizes {
+        println!("the sizes of the parts: {}", sizes_text(sizes).trim_end());
+        println!("the calls by the reference:");
+        print!("{}", setting.lines(&small));
+    }
     match difference(setting, program, &small) {
         Some(found) => {
             println!("line {} is to be {}", found.line, found.expected);

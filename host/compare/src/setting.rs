@@ -1,12 +1,13 @@
-//! What is compared: the program of R41 or that of R46, on inputs that end or on
-//! inputs whose reading fails.
-
-use std::path::Path;
+//! What is compared: the program of R41, that of R46 or the page form (R47), on
+//! inputs that end or on inputs whose reading fails.
 
 use reference::log::parts;
+use reference::pages;
 use reference::program::{self, split_up_to, FULL_N, MOST_N};
 
-use crate::{generate, process};
+use crate::generate;
+use crate::process::{self, Command};
+use crate::trial::Trial;
 
 /// The most bytes of whole records in an input whose reading fails: a socket
 /// holds them all.
@@ -22,6 +23,8 @@ pub struct Setting {
     pub full: bool,
     /// Does reading fail where the input's bytes are over?
     pub unread: bool,
+    /// Is it the page form, the log in parts?
+    pub parts: bool,
 }
 
 impl Setting {
@@ -34,10 +37,21 @@ impl Setting {
         }
     }
 
+    /// What a seed gives to try: one input, or its log cut in one way or more.
+    pub fn trials(self, seed: u64) -> Vec<Trial> {
+        if self.parts {
+            generate::in_parts(seed)
+        } else {
+            vec![Trial::whole(self.input(seed))]
+        }
+    }
+
     /// The input of a seed.
     pub fn input(self, seed: u64) -> Vec<u8> {
         let input = if self.full {
             generate::full_input(seed)
+        } else if self.parts {
+            generate::paged_input(seed)
         } else {
             generate::input(seed)
         };
@@ -49,20 +63,20 @@ impl Setting {
     }
 
     /// What the reference prints.
-    pub fn lines(self, input: &[u8]) -> String {
-        if self.unread {
-            program::lines_unread(self.most(), input)
-        } else {
-            program::lines_up_to(self.most(), input)
+    pub fn lines(self, trial: &Trial) -> String {
+        match &trial.sizes {
+            Some(sizes) => pages::lines(&trial.input, sizes),
+            None if self.unread => program::lines_unread(self.most(), &trial.input),
+            None => program::lines_up_to(self.most(), &trial.input),
         }
     }
 
     /// What a program prints.
-    pub fn output(self, path: &Path, input: &[u8]) -> Result<String, String> {
-        if self.unread {
-            process::output_unread(path, input)
-        } else {
-            process::output(path, input)
+    pub fn output(self, program: &Command, trial: &Trial) -> Result<String, String> {
+        match &trial.sizes {
+            Some(sizes) => process::output_in_parts(program, &trial.input, sizes),
+            None if self.unread => process::output_unread(program, &trial.input),
+            None => process::output(program, &trial.input),
         }
     }
 

@@ -1,49 +1,44 @@
-//! From an input that differs to a smaller one that still does: records are
-//! dropped, then points and scans, then the last bytes of what is no record,
-//! until nothing more can go.
+//! From a trial that differs to a smaller one that still does: records are
+//! dropped, then cuts between parts, then points and scans, then the last bytes of
+//! what is no record, until nothing more can go.
 
-use reference::log::parts;
 use reference::program::split_up_to;
 use reference::record::{with_length, LEAST_LENGTH};
 use reference::Record;
 
+use crate::pieces::Pieces;
+use crate::trial::Trial;
+
 /// The most tries, so that a slow program cannot hold things up for long.
 const TRIES: usize = 6_000;
 
-/// An input in pieces.
-#[derive(Clone, Debug)]
-struct Pieces {
-    limits: Vec<u8>,
-    parts: Vec<Vec<u8>>,
-    tail: Vec<u8>,
-}
-
-impl Pieces {
-    fn bytes(&self) -> Vec<u8> {
-        [&self.limits[..], &self.parts.concat(), &self.tail].concat()
-    }
-}
-
 /// The search for smaller pieces.
 struct Search<'a> {
-    differs: &'a mut dyn FnMut(&[u8]) -> bool,
+    differs: &'a mut dyn FnMut(&Trial) -> bool,
     best: Pieces,
     tries: usize,
 }
 
-/// The smallest input found that still differs, for a program that takes N up
-/// to `most`. `input` itself must differ.
-pub fn shrink(most: u32, input: &[u8], differs: &mut dyn FnMut(&[u8]) -> bool) -> Vec<u8> {
+/// The smallest trial found that still differs, for a program that takes N up
+/// to `most`. `trial` itself must differ.
+pub fn shrink(most: u32, trial: &Trial, differs: &mut dyn FnMut(&Trial) -> bool) -> Trial {
+    let input = &trial.input;
     let Ok((_, log)) = split_up_to(most, input) else {
-        let front = &input[..input.len().min(8)];
-        return if differs(front) { front } else { input }.to_vec();
+        let front = Trial {
+            input: input[..input.len().min(8)].to_vec(),
+            sizes: trial.sizes.as_ref().map(|_| Vec::new()),
+        };
+        return if differs(&front) {
+            front
+        } else {
+            trial.clone()
+        };
     };
-    let (found, tail) = parts(log);
-    let best = Pieces {
-        limits: input[..8].to_vec(),
-        parts: found.iter().map(|part| part.to_vec()).collect(),
-        tail: tail.to_vec(),
-    };
+    let best = Pieces::of(&input[..8], log, trial.sizes.as_deref());
+    if best.trial() != *trial && !differs(&best.trial()) {
+        // It is how the sizes are said that makes the difference.
+        return trial.clone();
+    }
     let tries = TRIES;
     let mut search = Search {
         differs,
@@ -51,13 +46,14 @@ pub fn shrink(most: u32, input: &[u8], differs: &mut dyn FnMut(&[u8]) -> bool) -
         tries,
     };
     loop {
-        let before = search.best.bytes().len();
+        let before = search.best.size();
         search.drop_tail();
         search.drop_records();
+        search.drop_cuts();
         search.drop_points_and_scans();
         search.drop_last_bytes();
-        if search.best.bytes().len() == before {
-            return search.best.bytes();
+        if search.best.size() == before {
+            return search.best.trial();
         }
     }
 }
@@ -69,27 +65,58 @@ impl Search<'_> {
             return false;
         }
         self.tries -= 1;
-        let taken = (self.differs)(&smaller.bytes());
+        let taken = (self.differs)(&smaller.trial());
         if taken {
             self.best = smaller;
         }
         taken
     }
 
-    /// Leaves out what stands behind the last record.
+    /// Leaves out what stands behind the last record, or last bytes of it: half of
+    /// what is there, then a half of that, and so on.
     fn drop_tail(&mut self) {
-        if !self.best.tail.is_empty() {
+        let mut bytes = self.best.tail.bytes.len();
+        while bytes > 0 {
             let mut smaller = self.best.clone();
-            smaller.tail.clear();
-            self.take(smaller);
+            let tail = &mut smaller.tail;
+            if let Some(left) = tail.bytes.len().checked_sub(bytes) {
+                tail.bytes.truncate(left);
+                tail.cuts.retain(|&cut| cut <= left);
+                self.take(smaller);
+            }
+            bytes /= 2;
+        }
+    }
+
+    /// Leaves out runs of cuts between parts, long runs first, from the end to
+    /// the front.
+    fn drop_cuts(&mut self) {
+        let count = |best: &Pieces| best.all().map(|piece| piece.cuts.len()).sum::<usize>();
+        let mut run = count(&self.best).div_ceil(2);
+        while run > 0 {
+            let mut end = count(&self.best);
+            while end > 0 {
+                let start = end.saturating_sub(run);
+                let mut smaller = self.best.clone();
+                let mut number = 0;
+                for piece in smaller.records.iter_mut().chain([&mut smaller.tail]) {
+                    piece.cuts.retain(|_| {
+                        number += 1;
+                        !(start < number && number <= end)
+                    });
+                }
+                self.take(smaller);
+                end = start;
+            }
+            run /= 2;
         }
     }
 
     /// Leaves out runs of records, long runs first, from the end to the front.
     fn drop_records(&mut self) {
-        let mut run = self.best.parts.len().div_ceil(2);
+        let mut run = self.best.records.len().div_ceil(2);
         while run > 0 {
-            let mut end = self.best.parts.len();
+            let mut end = self.best.records.len();
             while end > 0 {
                 let start = end.saturating_sub(run);
                 self.drop_run(start, end);
@@ -103,10 +130,10 @@ impl Search<'_> {
     /// along, then with snapshots as they are.
     fn drop_run(&mut self, start: usize, end: usize) {
         let mut kept = self.best.clone();
-        kept.parts.drain(start..end);
+        kept.records.drain(start..end);
         let mut moved = kept.clone();
-        for part in &mut moved.parts[start..] {
-            move_snapshot(part, start as u32, end as u32);
+        for piece in &mut moved.records[start..] {
+            move_snapshot(&mut piece.bytes, start as u32, end as u32);
         }
         if !self.take(moved) {
             self.take(kept);
@@ -115,8 +142,8 @@ impl Search<'_> {
 
     /// Leaves out points and scans of well-formed records, one at a time.
     fn drop_points_and_scans(&mut self) {
-        for index in 0..self.best.parts.len() {
-            let Ok(mut record) = Record::parse(&self.best.parts[index]) else {
+        for index in 0..self.best.records.len() {
+            let Ok(mut record) = Record::parse(&self.best.records[index].bytes) else {
                 continue;
             };
             for place in (0..record.points.len()).rev() {
@@ -134,19 +161,19 @@ impl Search<'_> {
         }
     }
 
-    /// Leaves out last bytes of parts that are not well formed, half of what
+    /// Leaves out last bytes of records that are not well formed, half of what
     /// can go, then a half of that, and so on.
     fn drop_last_bytes(&mut self) {
-        for index in 0..self.best.parts.len() {
-            if Record::parse(&self.best.parts[index]).is_ok() {
+        for index in 0..self.best.records.len() {
+            if Record::parse(&self.best.records[index].bytes).is_ok() {
                 continue;
             }
-            let mut bytes = self.best.parts[index].len() - 2 - LEAST_LENGTH;
+            let mut bytes = self.best.records[index].bytes.len() - 2 - LEAST_LENGTH;
             while bytes > 0 {
-                let body = &self.best.parts[index][2..];
+                let body = &self.best.records[index].bytes[2..];
                 if bytes + LEAST_LENGTH <= body.len() {
                     let shorter = with_length(&body[..body.len() - bytes]);
-                    self.replace_part(index, shorter);
+                    self.replace_bytes(index, shorter);
                 }
                 bytes /= 2;
             }
@@ -155,13 +182,18 @@ impl Search<'_> {
 
     /// Tries a record in the place of another.
     fn replace(&mut self, index: usize, record: &Record) -> bool {
-        self.replace_part(index, record.to_bytes())
+        self.replace_bytes(index, record.to_bytes())
     }
 
-    /// Tries bytes in the place of a record's.
-    fn replace_part(&mut self, index: usize, bytes: Vec<u8>) -> bool {
+    /// Tries bytes in the place of a record's. Cuts behind their end are at the
+    /// last byte then.
+    fn replace_bytes(&mut self, index: usize, bytes: Vec<u8>) -> bool {
         let mut smaller = self.best.clone();
-        smaller.parts[index] = bytes;
+        let piece = &mut smaller.records[index];
+        for cut in &mut piece.cuts {
+            *cut = (*cut).min(bytes.len() - 1);
+        }
+        piece.bytes = bytes;
         self.take(smaller)
     }
 }

@@ -4,6 +4,7 @@ use std::collections::BTreeMap;
 
 use compare::generate;
 use reference::log::parts;
+use reference::pages::cut;
 use reference::program::split;
 use reference::{Answer, Limits, Record, State};
 
@@ -112,6 +113,93 @@ fn every_edge_is_met() {
             }
             Err(_) => *tally.entry("bad limits").or_default() += 1,
         }
+    }
+    println!("{tally:#?}");
+    for (name, count) in tally {
+        assert!(count > 2, "{name} is met only {count} times");
+    }
+}
+
+/// Counts the edges of one log that is cut into parts of these sizes.
+fn cut_edges(log: &[u8], sizes: &[usize], tally: &mut Tally) {
+    let mut add = |name, met: bool| *tally.entry(name).or_default() += usize::from(met);
+    // How many parts end at each place.
+    let mut ends = vec![0; log.len() + 2];
+    let mut place = 0;
+    for part in cut(log, sizes) {
+        place += part.len();
+        ends[place] += 1;
+    }
+    let cut_at = |place: usize| ends[place];
+    let (records, tail) = parts(log);
+    let mut start = 0;
+    for record in &records {
+        let end = start + record.len();
+        let inside = (start + 1..end).map(cut_at).sum::<usize>();
+        add("a length in two parts", cut_at(start + 1) > 0);
+        add(
+            "an empty part within a length",
+            cut_at(start + 1) > 1 && inside > 1,
+        );
+        add("a length and nothing behind it", cut_at(start + 2) > 0);
+        let alone = cut_at(end - 1) > 0 && cut_at(end) > 0;
+        add("a last byte alone in its part", alone);
+        add("a part that ends with a record", cut_at(end) > 0);
+        add("a record in ten parts", inside > 8);
+        add("a 9-byte record in parts", record.len() == 9 && inside > 0);
+        let longest = record.len() == 905;
+        add("a 905-byte record in parts", longest && inside > 0);
+        add("a 905-byte record in one part", longest && inside == 0);
+        let flawed = Record::parse(record).is_err();
+        add("a malformed record in parts", flawed && inside > 0);
+        start = end;
+    }
+    let length = tail.first_chunk::<2>().map(|two| u16::from_be_bytes(*two));
+    let impossible = length.is_some_and(|length| !(7..=903).contains(&length));
+    add("an impossible length", impossible);
+    let halved = impossible && cut_at(start + 1) > 0;
+    add("an impossible length in two parts", halved);
+    let late = impossible && start > 0 && cut_at(start) == 0;
+    add("an impossible length behind a record of its part", late);
+    let first = impossible && start > 0 && cut_at(start) > 0;
+    add("an impossible length at a part's start", first);
+    add("a torn end", !tail.is_empty() && !impossible);
+    add("a torn end of one byte", tail.len() == 1);
+    add("empty parts behind the log", cut_at(log.len()) > 1);
+    add("empty parts before the log", cut_at(0) > 1);
+    let sum: usize = sizes.iter().sum();
+    add("more than the log has", sum > log.len());
+    add("less than the log has", sum < log.len());
+    add("one part", sizes.is_empty());
+    for (name, size) in [("pages of 256", 256), ("pages of 2,048", 2_048)] {
+        add(
+            name,
+            sizes.len() > 1 && sizes.iter().all(|&one| one == size),
+        );
+    }
+    let single = log.len() > 30 && sizes.len() == log.len();
+    add(
+        "every byte alone",
+        single && sizes.iter().all(|&one| one == 1),
+    );
+}
+
+#[test]
+fn every_edge_of_parts_is_met_by_500_seeds() {
+    let mut tally = Tally::new();
+    for seed in 0..500 {
+        let trials = generate::in_parts(seed);
+        let Ok((_, log)) = split(&trials[0].input) else {
+            continue;
+        };
+        for trial in &trials {
+            cut_edges(log, trial.sizes.as_deref().unwrap_or(&[]), &mut tally);
+        }
+        let every = (0..=log.len()).all(|place| {
+            let two = Some(vec![place, 0]);
+            trials.iter().any(|trial| trial.sizes == two)
+        });
+        *tally.entry("short logs cut everywhere").or_default() += usize::from(every);
     }
     println!("{tally:#?}");
     for (name, count) in tally {

@@ -2,10 +2,11 @@
 
 use compare::generate;
 use reference::log::parts;
+use reference::pages::{calls, cut};
 use reference::program::{join, run, split};
 use reference::random::Random;
 use reference::refresh::{in_force, refresh};
-use reference::{Answer, Limits, Point, Record, Scan, State};
+use reference::{Answer, Fed, Limits, Point, Record, Said, Scan, State, Verdict};
 
 /// The limits and the records of a seed's input, if its limits are good and it
 /// is not too long to keep every state of it.
@@ -265,4 +266,39 @@ fn every_answer_is_frequent() {
         );
     }
     assert!(refused > 30 && ends[0] > 100 && ends[1] > 1_000);
+}
+
+/// The verdict of a call that decided a record.
+fn verdict_of(fed: &Fed) -> Option<Verdict> {
+    match fed.said {
+        Said::Answer(answer) if answer < Answer::UnfitPool => Some(Verdict {
+            answer,
+            looks: fed.looks,
+        }),
+        _ => None,
+    }
+}
+
+/// R49: whatever parts a log is cut into, it has the verdicts, the looks, the
+/// ending and the state of the log walked at once.
+#[test]
+fn a_log_in_parts_is_the_log() {
+    for seed in 0..600 {
+        for trial in generate::in_parts(seed) {
+            let (Ok((limits, log)), Ok(whole)) = (split(&trial.input), run(&trial.input)) else {
+                continue;
+            };
+            let mut state = State::new(limits);
+            let sizes = trial.sizes.unwrap_or_default();
+            let fed = calls(&mut state, &cut(log, &sizes));
+            let verdicts: Vec<Verdict> = fed.iter().filter_map(verdict_of).collect();
+            assert_eq!(verdicts, whole.verdicts, "seed {seed}, sizes {sizes:?}");
+            let ending = match whole.ended {
+                true => Said::End,
+                false => Said::Answer(Answer::BrokenLog),
+            };
+            assert_eq!(fed.last().map(|fed| fed.said), Some(ending));
+            assert_eq!(state, whole.state);
+        }
+    }
 }

@@ -1,19 +1,37 @@
 //! Logs from seeds catch every mistake, and small logs show it.
 
+use compare::calls::Call;
 use compare::check::difference;
 use compare::generate;
+use compare::mistaken::feed::{self, FeedMistake};
 use compare::mistaken::{lines, Mistake};
 use compare::setting::Setting;
 use compare::shrink::shrink;
+use compare::trial::Trial;
 use reference::program::MOST_N;
+
+/// The page form.
+const PARTS: Setting = Setting {
+    full: false,
+    unread: false,
+    parts: true,
+};
+
+/// The page form with this mistake.
+fn misfed(mistake: Option<FeedMistake>) -> impl Fn(&Trial) -> Result<String, String> {
+    move |trial| {
+        let sizes = trial.sizes.as_deref().expect("the log is in parts");
+        Ok(feed::lines(mistake, &trial.input, sizes))
+    }
+}
 
 #[test]
 fn without_a_mistake_nothing_differs() {
     for seed in 0..1_500 {
         let found = difference(
             Setting::default(),
-            &|input| Ok(lines(None, input)),
-            &generate::input(seed),
+            &|trial| Ok(lines(None, &trial.input)),
+            &Trial::whole(generate::input(seed)),
         );
         assert_eq!(found, None, "seed {seed}");
     }
@@ -21,14 +39,66 @@ fn without_a_mistake_nothing_differs() {
 
 #[test]
 fn every_mistake_is_caught_and_cut_down() {
-    let inputs: Vec<Vec<u8>> = (0..2_000).map(generate::input).collect();
+    let trials: Vec<Trial> = (0..2_000)
+        .map(|seed| Trial::whole(generate::input(seed)))
+        .collect();
     for &mistake in Mistake::ALL {
-        let program = |input: &[u8]| Ok(lines(Some(mistake), input));
-        let mut differs = |input: &[u8]| difference(Setting::default(), &program, input).is_some();
-        let place = inputs.iter().position(|input| differs(input));
+        let program = |trial: &Trial| Ok(lines(Some(mistake), &trial.input));
+        let mut differs = |trial: &Trial| difference(Setting::default(), &program, trial).is_some();
+        let place = trials.iter().position(&mut differs);
         let place = place.unwrap_or_else(|| panic!("not caught: {}", mistake.words()));
-        let small = shrink(MOST_N, &inputs[place], &mut differs).len();
+        let small = shrink(MOST_N, &trials[place], &mut differs).input.len();
         println!("{mistake:?}: seed {place}, cut down to {small} bytes");
         assert!(small < 1_000, "{mistake:?}: {small} bytes");
+    }
+}
+
+#[test]
+fn fed_in_parts_without_a_mistake_nothing_differs() {
+    for seed in 0..800 {
+        for trial in generate::in_parts(seed) {
+            let found = difference(PARTS, &misfed(None), &trial);
+            assert_eq!(found, None, "seed {seed}, sizes {:?}", trial.sizes);
+        }
+    }
+}
+
+/// In few logs, and cut down to a few bytes and parts. Those that lines do not
+/// show are not caught by any: the list of them says no more than is true.
+#[test]
+fn every_mistake_of_feeding_is_caught_by_lines_and_cut_down() {
+    let trials: Vec<Trial> = (0..150).flat_map(generate::in_parts).collect();
+    for &mistake in FeedMistake::ALL {
+        let program = misfed(Some(mistake));
+        let mut differs = |trial: &Trial| difference(PARTS, &program, trial).is_some();
+        let found = trials.iter().find(|trial| differs(trial));
+        if FeedMistake::IN_CALLS_ONLY.contains(&mistake) {
+            assert_eq!(found, None, "lines show it: {}", mistake.words());
+            continue;
+        }
+        let found = found.unwrap_or_else(|| panic!("not caught: {}", mistake.words()));
+        let small = shrink(MOST_N, found, &mut differs);
+        let (bytes, sizes) = (small.input.len(), small.sizes.unwrap_or_default());
+        println!("{mistake:?}: cut down to {bytes} bytes, sizes {sizes:?}");
+        assert!(bytes < 100, "{mistake:?}: {bytes} bytes");
+        assert!(sizes.len() < 4, "{mistake:?}: sizes {sizes:?}");
+    }
+}
+
+#[test]
+fn every_mistake_of_feeding_is_caught_by_single_calls() {
+    let calls: Vec<Call> = (0..3_000).map(Call::of).collect();
+    for (seed, call) in calls.iter().enumerate() {
+        assert_eq!(call.mistaken(None), call.outcome(), "seed {seed}");
+    }
+    for &mistake in FeedMistake::ALL {
+        // It goes wrong only from one call to the next.
+        if mistake == FeedMistake::MoreHasLooks {
+            continue;
+        }
+        let differs = |call: &&Call| call.mistaken(Some(mistake)) != call.outcome();
+        let count = calls.iter().filter(differs).count();
+        println!("{mistake:?}: {count} of {} calls", calls.len());
+        assert!(count > 2, "not caught: {}", mistake.words());
     }
 }

@@ -64,3 +64,44 @@ fn a_program_that_prints_nothing_of_an_input_it_cannot_read_on_differs() {
     let text = String::from_utf8(output.stdout).unwrap();
     assert!(text.contains("the program has  ``"), "{text}");
 }
+
+const PAGE_FORM: [&str; 3] = ["--parts", "--program", env!("CARGO_BIN_EXE_misfed")];
+
+#[test]
+fn agreement_in_parts_has_status_0() {
+    for seeds in [["--seeds", "0..20"], ["--fresh", "10"]] {
+        let output = compare(None, &[&PAGE_FORM[..], &seeds].concat());
+        assert_eq!(output.status.code(), Some(0));
+        let text = String::from_utf8(output.stdout).unwrap();
+        assert!(text.contains(" calls more\n"), "{text}");
+        assert!(text.contains("no difference in "));
+    }
+}
+
+#[test]
+fn a_difference_in_parts_shows_a_small_log_and_its_sizes() {
+    let more = ["--argument", "RestLost", "--seeds", "0..60", "--jobs", "1"];
+    let output = compare(None, &[&PAGE_FORM[..], &more].concat());
+    assert_eq!(output.status.code(), Some(1));
+    let text = String::from_utf8(output.stdout).unwrap();
+    assert!(text.contains("the sizes of the parts: \n"), "{text}");
+    assert!(text.contains("line 1 is to be `"), "{text}");
+    let small = compare(
+        Some("LengthFromPart"),
+        &[&PAGE_FORM[..], &more[2..]].concat(),
+    );
+    let text = String::from_utf8(small.stdout).unwrap();
+    assert!(text.contains("the sizes of the parts: 1\n"), "{text}");
+}
+
+#[test]
+fn no_file_of_sizes_is_left_behind() {
+    let folder = std::env::temp_dir().join(format!("compare-test-{}", std::process::id()));
+    std::fs::create_dir(&folder).unwrap();
+    let mut command = Command::new(env!("CARGO_BIN_EXE_compare"));
+    command.args(PAGE_FORM).args(["--seeds", "0..5"]);
+    let output = command.env("TMPDIR", &folder).output().unwrap();
+    let left = std::fs::read_dir(&folder).unwrap().count();
+    std::fs::remove_dir_all(&folder).unwrap();
+    assert_eq!((output.status.code(), left), (Some(0), 0));
+}

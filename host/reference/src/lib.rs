@@ -3,16 +3,18 @@
 //! a rule of that page.
 //!
 //! From the bottom up: `answer`, `flaw`, `record`, `lists`, `log`, `tree`, `state`,
-//! `refresh`, `program`; `layout` for the bytes of a pool. `table` has the eleven rows
-//! of R44, `words` puts inputs into words, `random` is for tests and for the tool
-//! that compares.
+//! `refresh`, `feed`, `program`, `pages`; `layout` for the bytes of a pool. `table`
+//! has the eleven rows of R44, `words` puts inputs into words, `random` is for tests
+//! and for the tool that compares.
 #![forbid(unsafe_code)]
 
 pub mod answer;
+pub mod feed;
 pub mod flaw;
 pub mod layout;
 pub mod lists;
 pub mod log;
+pub mod pages;
 pub mod program;
 pub mod random;
 pub mod record;
@@ -23,6 +25,7 @@ pub mod tree;
 pub mod words;
 
 pub use answer::Answer;
+pub use feed::{feed, Fed, Said};
 pub use flaw::Flaw;
 pub use log::{LogReader, Step};
 pub use record::{Kind, Point, Record, Scan};

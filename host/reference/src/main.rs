@@ -1,13 +1,15 @@
 //! The program of R41 by the reference: standard input is N and Z and a
 //! log, standard output the lines. `reference full` is that of R46. `reference
-//! words` prints the same input in hex and in words instead.
+//! words` prints the same input in hex and in words instead, `reference parts FILE`
+//! the lines of the page form: the log fed in parts of the sizes in FILE.
 #![forbid(unsafe_code)]
 
+use std::fs;
 use std::io::{self, Read, Write};
 use std::process::ExitCode;
 
 use reference::program::{self, FULL_N, MOST_N};
-use reference::words;
+use reference::{pages, words};
 
 fn main() -> ExitCode {
     let arguments: Vec<String> = std::env::args().skip(1).collect();
@@ -16,8 +18,10 @@ fn main() -> ExitCode {
         ["full"] => print_lines(FULL_N),
         ["words"] => print_words(MOST_N),
         ["words", "full"] => print_words(FULL_N),
+        ["parts", sizes] => print_calls(sizes),
         _ => {
             eprintln!("usage: reference [words] [full] < INPUT");
+            eprintln!("       reference parts FILE < INPUT");
             return ExitCode::from(2);
         }
     };
@@ -45,6 +49,16 @@ fn print_words(most: u32) -> io::Result<()> {
     let mut input = Vec::new();
     io::stdin().lock().read_to_end(&mut input)?;
     print(&words::input_words_up_to(most, &input))
+}
+
+/// Reads standard input whole and prints a line a call, for parts of the sizes in
+/// this file.
+fn print_calls(sizes: &str) -> io::Result<()> {
+    let sizes = pages::sizes_in(&fs::read_to_string(sizes)?)
+        .ok_or_else(|| io::Error::other("the sizes of the parts are not decimal numbers"))?;
+    let mut input = Vec::new();
+    io::stdin().lock().read_to_end(&mut input)?;
+    print(&pages::lines(&input, &sizes))
 }
 
 fn print(text: &str) -> io::Result<()> {

@@ -1,11 +1,13 @@
 //! The conformance set: small logs, one idea each, by section of docs/RULES.md.
-//! The snapshot read little-endian comes first.
+//! The snapshot read little-endian comes first. Module `parts` has those of the
+//! page form.
 
 mod conflict;
 mod easy;
 mod limits;
 mod log;
 mod looks;
+pub mod parts;
 mod record;
 mod room;
 mod zone;

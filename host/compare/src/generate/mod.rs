@@ -2,19 +2,21 @@
 //!
 //! `profile` says what kind of log it is to be, `keys` which keys it uses,
 //! `record` makes one record for the state so far, `malformed` spoils records,
-//! `ending` spoils the log's end and its limits.
+//! `ending` spoils the log's end and its limits, `sizes` cuts the log into parts.
 
 pub mod ending;
 pub mod keys;
 pub mod malformed;
 pub mod profile;
 pub mod record;
+pub mod sizes;
 
-use reference::program::{join, FULL_N};
+use reference::program::{join, split, FULL_N};
 use reference::random::Random;
-use reference::record::MOST_POINTS;
-use reference::{Limits, Point, Record, State};
+use reference::record::{with_length, MOST_LENGTH, MOST_POINTS, MOST_SCANS};
+use reference::{Limits, Point, Record, Scan, State};
 
+use crate::trial::Trial;
 use profile::Profile;
 
 /// The input of a seed.
@@ -30,6 +32,59 @@ pub fn input(seed: u64) -> Vec<u8> {
         profile.z,
         &ending::perhaps_spoiled(log, &profile, &mut random),
     )
+}
+
+/// The input of a seed for the page form. One seed in ten has the longest records
+/// there are.
+pub fn paged_input(seed: u64) -> Vec<u8> {
+    match seed % 10 {
+        9 => longest_records(seed),
+        _ => input(seed),
+    }
+}
+
+/// The same with its log in parts: cut at random, and if it is short at every
+/// place besides.
+pub fn in_parts(seed: u64) -> Vec<Trial> {
+    let input = paged_input(seed);
+    let log = split(&input).map_or(&[][..], |(_, log)| log);
+    // Not the numbers that the log was made from.
+    let mut random = Random::new(!seed);
+    let mut cuts = vec![sizes::sizes(log, &mut random)];
+    cuts.extend(sizes::every_cut(log));
+    let trial = |sizes| Trial::in_parts(input.clone(), sizes);
+    cuts.into_iter().map(trial).collect()
+}
+
+/// A few records of 905 bytes, well formed and not, among records of 9 bytes.
+fn longest_records(seed: u64) -> Vec<u8> {
+    let mut random = Random::new(seed);
+    let mut log = Vec::new();
+    for snapshot in 0..1 + random.between(0, 9) {
+        let mut record = Record {
+            snapshot,
+            ..Record::default()
+        };
+        let bytes = match random.below(5) {
+            0 | 1 => record.to_bytes(),
+            2 => with_length(&[random.pick(&[0, 1]); MOST_LENGTH]),
+            _ => {
+                let (key, step) = (random.between(0, 200), random.between(1, 3));
+                let keys = (0..MOST_POINTS as u32).map(|index| key + index * step);
+                record.points = keys.map(|key| Point::put(key, 5)).collect();
+                let scan = |low| Scan { low, high: low + 7 };
+                let scans = (0..MOST_SCANS as u32).map(|index| scan(index * 100));
+                record.scans = scans.collect();
+                record.to_bytes()
+            }
+        };
+        log.extend(bytes);
+    }
+    let profile = Profile::torn(&mut random);
+    if random.percent(50) {
+        log = ending::perhaps_spoiled(log, &profile, &mut random);
+    }
+    join(200, random.between(1, 12), &log)
 }
 
 /// The input of a seed for the program at full size: pools above 1,000 keys. One

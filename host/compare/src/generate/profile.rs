@@ -172,7 +172,7 @@ impl Profile {
     }
 
     /// A log whose end is always spoiled.
-    fn torn(random: &mut Random) -> Profile {
+    pub fn torn(random: &mut Random) -> Profile {
         Profile {
             spoiled: 100,
             records: 1 + random.below(12),

@@ -2,8 +2,42 @@
 //!
 //! Without a mistake it is a third way to the same answers: it decides by the
 //! kept positions and in the conflict walk itself, where the reference scans
-//! the committed writes. It is for tests only.
+//! the committed writes. Module `feed` is the page form in this way. Both are for
+//! tests only.
 
+/// An enum of mistakes with their words.
+macro_rules! mistakes {
+    ($(#[$about:meta])* $name:ident { $($case:ident: $words:literal,)* }) => {
+        $(#[$about])*
+        #[derive(Clone, Copy, Debug, PartialEq, Eq)]
+        pub enum $name {
+            $(#[doc = $words] $case,)*
+        }
+
+        impl $name {
+            /// Every mistake.
+            pub const ALL: &'static [$name] = &[$($name::$case,)*];
+
+            /// The mistake in words.
+            pub fn words(self) -> &'static str {
+                match self {
+                    $($name::$case => $words,)*
+                }
+            }
+
+            /// The mistake of this name.
+            pub fn named(name: &str) -> Option<$name> {
+                match name {
+                    $(stringify!($case) => Some($name::$case),)*
+                    _ => None,
+                }
+            }
+        }
+    };
+}
+
+pub mod feed;
+mod feeder;
 mod meld;
 mod record;
 mod room;
@@ -12,119 +46,92 @@ mod walk;
 use meld::Pool;
 use record::{next_part, Next};
 
-macro_rules! mistakes {
-    ($($case:ident: $words:literal,)*) => {
-        /// A mistake that a port might make.
-        #[derive(Clone, Copy, Debug, PartialEq, Eq)]
-        pub enum Mistake {
-            $(#[doc = $words] $case,)*
-        }
-
-        impl Mistake {
-            /// Every mistake.
-            pub const ALL: &'static [Mistake] = &[$(Mistake::$case,)*];
-
-            /// The mistake in words.
-            pub fn words(self) -> &'static str {
-                match self {
-                    $(Mistake::$case => $words,)*
-                }
-            }
-
-            /// The mistake of this name.
-            pub fn named(name: &str) -> Option<Mistake> {
-                match name {
-                    $(stringify!($case) => Some(Mistake::$case),)*
-                    _ => None,
-                }
-            }
-        }
-    };
-}
-
 mistakes! {
-    NoKeysTaken: "N = 0 is taken",
-    TooManyKeysTaken: "N = 1,001 is taken",
-    MostKeysRefused: "N = 1,000 is refused",
-    NoZoneTaken: "Z = 0 is taken",
-    TooLongZoneTaken: "Z = 4,097 is taken",
-    LongestZoneRefused: "Z = 4,096 is refused",
-    ShortInputTaken: "fewer than 8 bytes are an empty log",
-    EmptyLogBroken: "an empty log is broken",
-    LastByteIgnored: "a single byte at the end is not seen",
-    TornRecordIgnored: "a torn record is the end",
-    TornRecordMalformed: "a torn record answers 4",
-    LengthSixTaken: "length 6 is handed out",
-    LengthSevenRefused: "length 7 is broken",
-    LengthNotMost: "length 903 is broken",
-    LengthAboveTaken: "length 904 is handed out",
-    MalformedBreaks: "a malformed record breaks the log",
-    LittleEndianClamped: "the snapshot is read little-endian and clamped to p",
-    LittleEndian: "the snapshot is read little-endian",
-    VersionIgnored: "the version is not looked at",
-    PointsAboveTaken: "65 points are taken",
-    PointsFullRefused: "64 points are refused",
-    ScansAboveTaken: "9 scans are taken",
-    ScansFullRefused: "8 scans are refused",
-    KindsAnyTaken: "an unknown kind is a read",
-    KeysEqualTaken: "equal point keys are taken",
-    KeysFallingTaken: "falling point keys are taken",
-    KeysSigned: "keys are compared as signed numbers",
-    ScanOneKeyRefused: "a scan of one key is refused",
-    ScanBackwardsTaken: "a scan with low above high is taken",
-    ScansTouchTaken: "a scan may begin where the one before ends",
-    ScansNextRefused: "a scan may not begin right behind the one before",
-    ScansAnyOrderTaken: "scans may fall",
-    OverlapRefused: "a point inside a scan is refused",
-    BytesLeftTaken: "bytes after the last scan are passed over",
-    NothingRefused: "an empty record is malformed",
-    AheadBeforeMalformed: "5 comes before 4",
-    OldBeforeMalformed: "2 comes before 4",
-    RoomBeforeConflict: "3 comes before 1",
-    AheadAtP: "s = p answers 5",
-    AheadLate: "s = p + 1 passes",
-    OldAtZ: "p - s = Z answers 2",
-    OldLate: "p - s = Z + 1 passes",
-    MalformedTakesNoPosition: "a malformed record takes no position",
-    AbortedTakesNoPosition: "an aborted record takes no position",
-    AbsentReadsLeftOut: "reads of keys absent at the snapshot are left out",
-    PutsDoNotConflict: "only reads and scans are looked at, not puts",
-    DeletesDoNotConflict: "deletes are not looked at",
-    ScansLeftOut: "scans are not looked at",
-    ScanLowLeftOut: "a scan does not cover its low end",
-    ScanHighLeftOut: "a scan does not cover its high end",
-    TombstonesDoNotConflict: "a deleted key is no conflict",
-    SnapshotInZone: "a write at s itself is a conflict",
-    AbortedWriter: "an aborted record counts as a writer",
-    ReadsWrite: "a read counts as a write",
-    AbsentDeleteLost: "a delete of an absent key is no write",
-    DeleteRemoves: "a delete takes the key out at once",
-    ZeroPutDeletes: "a put of payload 0 is a delete",
-    RoomForOneMore: "N + 1 keys fit",
-    RoomForOneLess: "N keys do not fit",
-    TombstonesNeedNoRoom: "young tombstones are not counted",
-    DeletesNeedNoRoom: "the keys a record deletes are not counted",
-    ReadsNeedRoom: "the keys a record reads are counted",
-    RewritesNeedRoom: "a kept key that is written counts twice",
-    NeverDropped: "a tombstone is never dropped",
-    DroppedEarly: "a tombstone is dropped a position early",
-    DroppedLate: "a tombstone is dropped a position late",
-    DroppedAlways: "old tombstones are dropped with every commit",
-    DroppedWhenFull: "old tombstones are dropped at N keys already",
-    DroppedJustEnough: "only as many tombstones are dropped as needed",
-    DroppedOnRefusal: "answer 3 drops old tombstones too",
-    RootNotCounted: "the root is not counted",
-    StopsNotCounted: "a node that is stopped at is not counted",
-    EmptyTreeCounted: "an empty tree takes a look",
-    RefusalsLook: "answers 2 and 5 take a look",
-    NoRoomHidesLooks: "answer 3 takes no looks",
-    RightAfterConflict: "the right child is looked at after a conflict",
-    RightFirst: "the right child is looked at first",
-    CoverOfKeys: "an inner node covers only its lowest to highest key",
-    NewestIgnored: "newest does not stop the walk",
-    NewestAtSnapshotSeen: "newest = s does not stop the walk",
-    CoverIgnored: "the cover does not stop the walk",
-    LooksAfterWrites: "looks are counted after the writes are stored",
+    /// A mistake that a port might make.
+    Mistake {
+        NoKeysTaken: "N = 0 is taken",
+        TooManyKeysTaken: "N = 1,001 is taken",
+        MostKeysRefused: "N = 1,000 is refused",
+        NoZoneTaken: "Z = 0 is taken",
+        TooLongZoneTaken: "Z = 4,097 is taken",
+        LongestZoneRefused: "Z = 4,096 is refused",
+        ShortInputTaken: "fewer than 8 bytes are an empty log",
+        EmptyLogBroken: "an empty log is broken",
+        LastByteIgnored: "a single byte at the end is not seen",
+        TornRecordIgnored: "a torn record is the end",
+        TornRecordMalformed: "a torn record answers 4",
+        LengthSixTaken: "length 6 is handed out",
+        LengthSevenRefused: "length 7 is broken",
+        LengthNotMost: "length 903 is broken",
+        LengthAboveTaken: "length 904 is handed out",
+        MalformedBreaks: "a malformed record breaks the log",
+        LittleEndianClamped: "the snapshot is read little-endian and clamped to p",
+        LittleEndian: "the snapshot is read little-endian",
+        VersionIgnored: "the version is not looked at",
+        PointsAboveTaken: "65 points are taken",
+        PointsFullRefused: "64 points are refused",
+        ScansAboveTaken: "9 scans are taken",
+        ScansFullRefused: "8 scans are refused",
+        KindsAnyTaken: "an unknown kind is a read",
+        KeysEqualTaken: "equal point keys are taken",
+        KeysFallingTaken: "falling point keys are taken",
+        KeysSigned: "keys are compared as signed numbers",
+        ScanOneKeyRefused: "a scan of one key is refused",
+        ScanBackwardsTaken: "a scan with low above high is taken",
+        ScansTouchTaken: "a scan may begin where the one before ends",
+        ScansNextRefused: "a scan may not begin right behind the one before",
+        ScansAnyOrderTaken: "scans may fall",
+        OverlapRefused: "a point inside a scan is refused",
+        BytesLeftTaken: "bytes after the last scan are passed over",
+        NothingRefused: "an empty record is malformed",
+        AheadBeforeMalformed: "5 comes before 4",
+        OldBeforeMalformed: "2 comes before 4",
+        RoomBeforeConflict: "3 comes before 1",
+        AheadAtP: "s = p answers 5",
+        AheadLate: "s = p + 1 passes",
+        OldAtZ: "p - s = Z answers 2",
+        OldLate: "p - s = Z + 1 passes",
+        MalformedTakesNoPosition: "a malformed record takes no position",
+        AbortedTakesNoPosition: "an aborted record takes no position",
+        AbsentReadsLeftOut: "reads of keys absent at the snapshot are left out",
+        PutsDoNotConflict: "only reads and scans are looked at, not puts",
+        DeletesDoNotConflict: "deletes are not looked at",
+        ScansLeftOut: "scans are not looked at",
+        ScanLowLeftOut: "a scan does not cover its low end",
+        ScanHighLeftOut: "a scan does not cover its high end",
+        TombstonesDoNotConflict: "a deleted key is no conflict",
+        SnapshotInZone: "a write at s itself is a conflict",
+        AbortedWriter: "an aborted record counts as a writer",
+        ReadsWrite: "a read counts as a write",
+        AbsentDeleteLost: "a delete of an absent key is no write",
+        DeleteRemoves: "a delete takes the key out at once",
+        ZeroPutDeletes: "a put of payload 0 is a delete",
+        RoomForOneMore: "N + 1 keys fit",
+        RoomForOneLess: "N keys do not fit",
+        TombstonesNeedNoRoom: "young tombstones are not counted",
+        DeletesNeedNoRoom: "the keys a record deletes are not counted",
+        ReadsNeedRoom: "the keys a record reads are counted",
+        RewritesNeedRoom: "a kept key that is written counts twice",
+        NeverDropped: "a tombstone is never dropped",
+        DroppedEarly: "a tombstone is dropped a position early",
+        DroppedLate: "a tombstone is dropped a position late",
+        DroppedAlways: "old tombstones are dropped with every commit",
+        DroppedWhenFull: "old tombstones are dropped at N keys already",
+        DroppedJustEnough: "only as many tombstones are dropped as needed",
+        DroppedOnRefusal: "answer 3 drops old tombstones too",
+        RootNotCounted: "the root is not counted",
+        StopsNotCounted: "a node that is stopped at is not counted",
+        EmptyTreeCounted: "an empty tree takes a look",
+        RefusalsLook: "answers 2 and 5 take a look",
+        NoRoomHidesLooks: "answer 3 takes no looks",
+        RightAfterConflict: "the right child is looked at after a conflict",
+        RightFirst: "the right child is looked at first",
+        CoverOfKeys: "an inner node covers only its lowest to highest key",
+        NewestIgnored: "newest does not stop the walk",
+        NewestAtSnapshotSeen: "newest = s does not stop the walk",
+        CoverIgnored: "the cover does not stop the walk",
+        LooksAfterWrites: "looks are counted after the writes are stored",
+    }
 }
 
 /// What the program with this mistake prints for an input.

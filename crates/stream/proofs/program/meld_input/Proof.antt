@@ -1,8 +1,10 @@
 -- `stream::meld_input` meets its contract: one law for each return (Running.antt).
 -- Assumes nothing.
+use Prim.Native.Nat.{ℕ}
 use mathlib.Core.Path.{sym}
 use native.Mathlib.Omega.{arith}
 use borrow.Author.Needs.{needs}
+use lib.ListN.{length-replicate}
 use lib.Seq.{length-take-le}
 use Rattle.stream.proofs.Telling.{filled-inside}
 use Rattle.stream.proofs.Running.{ends-unread, ends-refused, ends-melded}
@@ -45,6 +47,9 @@ slice-aggregate-meld-through c = sym (length-take-le _ _ (omega (arith, c .befor
 slice-aggregate-meld-through-2 : tie.Need-slice-aggregate-meld-through-2
 slice-aggregate-meld-through-2 c = search needs
 
+slice-aggregate-meld-through-3 : tie.Need-slice-aggregate-meld-through-3
+slice-aggregate-meld-through-3 c = search needs
+
 meld-through-requires : tie.Need-meld-through-requires
 meld-through-requires c κs = search needs
 
@@ -52,7 +57,7 @@ same-length-2 : tie.Need-same-length-2
 same-length-2 c = search needs
 
 returns-3 : tie.Need-returns-3
-returns-3 c = ends-melded _ _ _ _ (c .before .before .before .before .before .before .before .before .before .before .before .before .before .before .before .before .before .before .fill .ensures) _ _ _ _ _ _ (search needs) (c .before .before .before .before .before .before .before .before .before .before .before .before .before .«open» .ensures) (search needs) (c .before .before .before .meld-through .ensures)
+returns-3 c = ends-melded _ _ _ _ (c .before .before .before .before .before .before .before .before .before .before .before .before .before .before .before .before .before .before .before .before .fill .ensures) _ _ _ _ _ _ (search needs) (c .before .before .before .before .before .before .before .before .before .before .before .before .before .before .before .«open» .ensures) (search needs) (length-replicate {A = ℕ} 905 0) (c .before .before .before .before .meld-through .ensures)
 
 pub meld-input-spec : {M : Type 1} → statement M
 meld-input-spec =
@@ -70,6 +75,7 @@ meld-input-spec =
     slice-relend-prefix-meld-through
     slice-aggregate-meld-through
     slice-aggregate-meld-through-2
+    slice-aggregate-meld-through-3
     meld-through-requires
     same-length-2
     returns-3)

@@ -1,0 +1,166 @@
+-- From the calls that the programs make to the runs of the theorems (R49): a part fed, then more parts, then the log over.
+-- The idea: lent a fit pool and a carry that may be, a call behind which the log does not go on says that it is broken.
+-- Assumes nothing.
+use Prim.Native.Nat.{ℕ, _+_, _≤_}
+use mathlib.Core.Path.{_≡_, refl, sym, ap, subst, _∙_}
+use mathlib.Core.Bool.{Bool, true, false, true≢false}
+use mathlib.Core.Option.{Option, none, some}
+use mathlib.Core.List.{List, [], _∷_, _++_, append-assoc, append-nil}
+use native.Mathlib.Omega.{arith}
+use lib.ListN.{length, take, drop, drop-of-length-le}
+use lib.Seq.{drop-drop}
+use Rattle.record.specs.Answer.{committed}
+use Rattle.log.specs.declared.found.Cut.{Cut}
+use Rattle.log.specs.declared.found.Cut.the-variants as Cuts
+use Rattle.log.specs.Log.{pastAt}
+use Rattle.log.specs.Walk.{joined}
+use Rattle.pool.specs.Image.{Fit}
+use Rattle.create.specs.Fresh.{Created}
+use Rattle.pages.specs.declared.told.Happened.{Happened}
+use Rattle.pages.specs.declared.told.Happened.the-variants.{Decided, Refused, More, End}
+use Rattle.pages.specs.declared.told.Fed.{Fed}
+use Rattle.pages.specs.Pages.{carrySize, bytesIn, isUnfit, feedRow, FeedRow, wrongCarry, stuck, cannotGoOn, recordWhole, goesOn, atEnd, torn, FeedsAs, Feeds}
+use Rattle.pages.proofs.Rows.{row-facts, may-join, may-few, whole-tells, no-both}
+use Rattle.pages.proofs.Fronts.{Such, length-in, record-goes-on}
+use Rattle.pages.proofs.Decided.{happened-is, fit-answers, verdict-said}
+use Rattle.pages.proofs.Carries.{such-left}
+use Rattle.pages.proofs.Refusals.{feed-stays-fit}
+use Rattle.demands.specs.Runs.{Whole}
+use Rattle.demands.specs.Calls.{none-more}
+use Rattle.demands.specs.Feeding.{verdictsIn, endingIn, PartsFed, next-part, breaks-off, is-over}
+use Rattle.demands.proofs.Calls.{stays-fit}
+use Rattle.demands.proofs.Parts.{parts-whole}
+use Rattle.lines.specs.declared.parts.Going.{Going}
+use Rattle.lines.specs.Parts.{goesOnBy, CallsOver, none-yet, one-more, PartCalls, all-taken, stops, PartFed, closedBy, Finishes, LogMelded}
+
+-- WHAT A CALL SAYS
+
+-- where the log goes on, nothing is said of its ending
+goes-none : (h : Happened) → goesOnBy h ≡ true → endingIn h ≡ none
+goes-none (Decided a) t = refl
+goes-none (Refused a) t = absurd (true≢false (sym t))
+goes-none More t = refl
+goes-none End t = absurd (true≢false (sym t))
+
+-- so many bytes are not a whole record where nothing was added to a carry that may be
+never-whole : {carry : List ℕ} {carried : ℕ} → Such carry carried → Rattle.pages.specs.Pages.cannotBe (take carried carry) ≡ false
+    → Rattle.pages.specs.Pages.wholeIn (bytesIn carry carried []) ≡ true → ⊥
+never-whole {carry} {carried} s f w =
+    omega (arith, whole-tells (bytesIn carry carried []) w .1, length-in s [], record-goes-on s [] f)
+
+module _ {m carry : List ℕ} {carried : ℕ} (fit : Fit m) (s : Such carry carried) where
+  -- while the log is not over, a call behind which it does not go on says that it is broken
+  stop-broken : {part : List ℕ} {r : Fed} {m′ carry′ : List ℕ} → Feeds m carry carried part false r m′ carry′ → goesOnBy (r .happened) ≡ false
+      → endingIn (r .happened) ≡ some Cuts.Broken
+  stop-broken {part} {r} {m′} {carry′} f n = go (feedRow carry carried part false) refl (f .as-said)
+    where
+      went : {x : Fed} → r ≡ x → goesOnBy (x .happened) ≡ true → endingIn (r .happened) ≡ some Cuts.Broken
+      went e t = absurd (true≢false (sym t ∙ ap goesOnBy (sym (happened-is e)) ∙ n))
+
+      go : (row : FeedRow) → feedRow carry carried part false ≡ row → FeedsAs row m carry carried part r m′ carry′ → endingIn (r .happened) ≡ some Cuts.Broken
+      go wrongCarry e l = no-both (may-join carry carried (s .sized) (s .may)) (row-facts wrongCarry carry carried part false e)
+      go stuck e l = ap endingIn (happened-is (l .said))
+      go cannotGoOn e l = ap endingIn (happened-is (l .said))
+      go recordWhole e d = went (verdict-said d (fit-answers (d .melds) fit)) refl
+      go goesOn e l = went (l .said) refl
+      go atEnd e l = absurd (true≢false (sym (row-facts atEnd carry carried part false e .4)))
+      go torn e l = ap endingIn (happened-is (l .said))
+
+  -- once it is over, a call with no byte more says how it ends
+  over-ends : {r : Fed} {m′ carry′ : List ℕ} → Feeds m carry carried [] true r m′ carry′ → endingIn (r .happened) ≡ some (closedBy (r .happened))
+  over-ends {r} {m′} {carry′} f = go (feedRow carry carried [] true) refl (f .as-said)
+    where
+      says : {x : Fed} → r ≡ x → endingIn (x .happened) ≡ some (closedBy (x .happened)) → endingIn (r .happened) ≡ some (closedBy (r .happened))
+      says e q = subst (λ (h : Happened). endingIn h ≡ some (closedBy h)) (sym (happened-is e)) q
+
+      go : (row : FeedRow) → feedRow carry carried [] true ≡ row → FeedsAs row m carry carried [] r m′ carry′ → endingIn (r .happened) ≡ some (closedBy (r .happened))
+      go wrongCarry e l = no-both (may-join carry carried (s .sized) (s .may)) (row-facts wrongCarry carry carried [] true e)
+      go stuck e l = says (l .said) refl
+      go cannotGoOn e l = says (l .said) refl
+      go recordWhole e d = let w = row-facts recordWhole carry carried [] true e in absurd (never-whole s (w .1) (w .3))
+      go goesOn e l = absurd (true≢false (row-facts goesOn carry carried [] true e .4))
+      go atEnd e l = says (l .said) refl
+      go torn e l = says (l .said) refl
+
+-- CALLS OVER A PART
+
+-- they leave a fit pool and a carry that may be
+calls-ready : {part m carry : List ℕ} {carried : ℕ} {rs : List Fed} {n : ℕ} {m′ carry′ : List ℕ} {carried′ : ℕ}
+    → CallsOver part m carry carried rs n m′ carry′ carried′ → Fit m → Such carry carried → Fit m′ × Such carry′ carried′
+calls-ready none-yet fit s = (fit, s)
+calls-ready (one-more c f g) fit s = let (a, b) = calls-ready c fit s in (feed-stays-fit f a, such-left b f)
+
+-- and are the first of a run
+calls-then : {part m carry : List ℕ} {carried : ℕ} {rs : List Fed} {n : ℕ} {m′ carry′ : List ℕ} {carried′ : ℕ}
+    → CallsOver part m carry carried rs n m′ carry′ carried′ → (parts : List (List ℕ)) (qs : List Fed) (m″ : List ℕ) (last : Cut)
+    → PartsFed (drop n part ∷ parts) m′ carry′ carried′ qs m″ last → PartsFed (part ∷ parts) m carry carried (rs ++ qs) m″ last
+calls-then none-yet parts qs m″ last p = p
+calls-then {part} {m} {carry} {carried} (one-more {rs = rs} {n = n} {m″ = m₁} {carry″ = carry₁} {r = r} c f g) parts qs m″ last p =
+    subst (λ (l : List Fed). PartsFed (part ∷ parts) m carry carried l m″ last) (sym (append-assoc rs (r ∷ []) qs))
+    (calls-then c parts (r ∷ qs) m″ last
+    (PartsFed.goes-on f (goes-none (r .happened) g) (subst (λ (l : List ℕ). PartsFed (l ∷ parts) m₁ carry₁ (r .carried) qs m″ last) (sym (drop-drop (r .taken) n part)) p)))
+
+-- A PART FED
+
+-- it leaves a fit pool and a carry that may be
+pub part-ready : {part m carry : List ℕ} {carried : ℕ} {rs : List Fed} {m′ carry′ : List ℕ} {carried′ : ℕ} {b : Bool}
+    → PartCalls part m carry carried rs m′ carry′ carried′ b → Fit m → Such carry carried → Fit m′ × Such carry′ carried′
+part-ready (all-taken c h) fit s = calls-ready c fit s
+part-ready (stops c f g) fit s = let (a, b) = calls-ready c fit s in (feed-stays-fit f a, such-left b f)
+
+-- all of it is taken: other parts may follow
+pub part-then : {part m carry : List ℕ} {carried : ℕ} {rs : List Fed} {m′ carry′ : List ℕ} {carried′ : ℕ}
+    → PartCalls part m carry carried rs m′ carry′ carried′ false → (parts : List (List ℕ)) (qs : List Fed) (m″ : List ℕ) (last : Cut)
+    → PartsFed parts m′ carry′ carried′ qs m″ last → PartsFed (part ∷ parts) m carry carried (rs ++ qs) m″ last
+part-then {part} (all-taken {n = n} {carried′ = k} {m′ = m₁} {carry′ = carry₁} c h) parts qs m″ last p =
+    calls-then c parts qs m″ last (subst (λ (l : List ℕ). PartsFed (l ∷ parts) m₁ carry₁ k qs m″ last) (sym (drop-of-length-le part h)) (next-part p))
+
+-- the log does not go on: it is broken
+pub part-breaks : {part m carry : List ℕ} {carried : ℕ} {rs : List Fed} {m′ carry′ : List ℕ} {carried′ : ℕ}
+    → PartCalls part m carry carried rs m′ carry′ carried′ true → Fit m → Such carry carried → (parts : List (List ℕ))
+    → PartsFed (part ∷ parts) m carry carried rs m′ Cuts.Broken
+part-breaks (stops {m″ = m₁} {r = r} c f g) fit s parts =
+    let (a, b) = calls-ready c fit s in
+    calls-then c parts (r ∷ []) m₁ Cuts.Broken (breaks-off f (stop-broken a b f g))
+
+-- the log is over
+pub finished : {m carry : List ℕ} {carried : ℕ} {m′ carry′ : List ℕ} {found : Cut} → Fit m → Such carry carried → (f : Finishes m carry carried m′ carry′ found)
+    → PartsFed [] m carry carried (f .call ∷ []) m′ found
+finished {m} {carry} {carried} {m′} fit s f =
+    subst (λ (c : Cut). PartsFed [] m carry carried (f .call ∷ []) m′ c) (sym (f .found-is)) (is-over (f .feeds) (over-ends fit s (f .feeds)))
+
+-- FROM A NEW POOL
+
+-- nothing is carried at first
+pub such-none : {carry : List ℕ} → length carry ≡ carrySize → Such carry 0
+such-none {carry} e = record { sized = e; may = may-few carry 0 (omega arith) }
+
+-- a new pool is fit
+pub new-fit : {lent : List ℕ} {N Z : ℕ} {m : List ℕ} → Created lent N Z committed m → Fit m
+new-fit {lent} {N} {Z} {m} c = stays-fit lent N Z m m c none-more
+
+module _ (log m carry m′ carry′ : List ℕ) (sized : length carry ≡ carrySize) (r : Going) (p : PartFed log 1 m carry 0 m′ carry′ r) where
+  -- a whole log in one part, and broken in it
+  pub log-breaks : r .stopped ≡ true → LogMelded log m m′ Cuts.Broken
+  log-breaks b =
+      record {
+        calls = p .calls;
+        whole =
+            λ N Z lent made.
+            subst (λ (l : List ℕ). Whole N Z l (verdictsIn (p .calls)) Cuts.Broken m′) (append-nil log)
+            (parts-whole made sized
+            (part-breaks (subst (λ (x : Bool). PartCalls log m carry 0 (p .calls) m′ carry′ (r .carried) x) b (p .made)) (new-fit made) (such-none sized) []));
+      }
+
+  -- and over behind it
+  pub log-ends : r .stopped ≡ false → (m″ carry″ : List ℕ) (found : Cut) → Finishes m′ carry′ (r .carried) m″ carry″ found → LogMelded log m m″ found
+  log-ends b m″ carry″ found f =
+      record {
+        calls = p .calls ++ (f .call ∷ []);
+        whole =
+            λ N Z lent made.
+            let (fit, such) = part-ready (p .made) (new-fit made) (such-none sized) in
+            subst (λ (l : List ℕ). Whole N Z l (verdictsIn (p .calls ++ (f .call ∷ []))) found m″) (append-nil log)
+            (parts-whole made sized
+            (part-then (subst (λ (x : Bool). PartCalls log m carry 0 (p .calls) m′ carry′ (r .carried) x) b (p .made)) [] (f .call ∷ []) m″ found (finished fit such f)));
+      }

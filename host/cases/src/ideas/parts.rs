@@ -1,0 +1,227 @@
+//! The log in parts: where a part may end, and what a call takes and carries.
+
+use reference::program::join;
+use reference::record::with_length;
+use reference::table::{self, record, scanning};
+use reference::Point;
+
+use super::pieces;
+use crate::{Case, InParts};
+
+/// The cases.
+pub fn all() -> Vec<InParts> {
+    let mut cases = whole_records();
+    cases.extend(carried_records());
+    cases.extend(endings());
+    cases
+}
+
+/// A case in parts of these sizes.
+fn in_parts(sizes: &[usize], case: Case) -> InParts {
+    let sizes = sizes.to_vec();
+    InParts { case, sizes }
+}
+
+/// A record of 9 bytes.
+fn nothing(snapshot: u32) -> Vec<u8> {
+    record(snapshot, &[]).to_bytes()
+}
+
+/// A record of 22 bytes.
+fn put(snapshot: u32) -> Vec<u8> {
+    record(snapshot, &[Point::put(10, 100)]).to_bytes()
+}
+
+/// Where the parts end between records, or nowhere.
+fn whole_records() -> Vec<InParts> {
+    vec![
+        in_parts(
+            &[9, 22],
+            pieces(
+                "parts-one-a-record",
+                "A record that lies whole in its part carried, or kept waiting for the next part.",
+                (3, 4),
+                &[&nothing(0), &put(1)],
+            ),
+        ),
+        in_parts(
+            &[36, 4],
+            pieces(
+                "parts-two-records-and-a-bit",
+                "The rest of a part lost after a verdict, or all its records decided in one call: a call \
+                 takes one record, and what it leaves is lent again.",
+                (3, 4),
+                &[&nothing(0), &put(1), &nothing(2)],
+            ),
+        ),
+        in_parts(
+            &[0, 0, 1, 0, 0, 1, 0, 6, 0, 1, 0, 9, 0, 0],
+            pieces(
+                "parts-empty",
+                "An empty part taken for the end, or for the loss of what is carried: before the log, \
+                 within a length, within a record, between two and behind the last it asks for more.",
+                (3, 4),
+                &[&nothing(0), &nothing(1)],
+            ),
+        ),
+    ]
+}
+
+/// Where the parts end within records.
+fn carried_records() -> Vec<InParts> {
+    let puts: Vec<Point> = (0..20).map(|key| Point::put(key, 1)).collect();
+    let long = record(0, &puts).to_bytes();
+    let most: Vec<Point> = (0..64).map(|key| Point::put(key, 1)).collect();
+    let scans: Vec<(u32, u32)> = (0..8).map(|low| (low * 10, low * 10 + 5)).collect();
+    let longest = scanning(0, &most, &scans).to_bytes();
+    let read = record(0, &[Point::read(10)]).to_bytes();
+    vec![
+        in_parts(
+            &[1],
+            pieces(
+                "parts-length-in-two",
+                "A length whose two bytes lie in two parts read from one of them: it is 267, 01 and 0B.",
+                (30, 4),
+                &[&long, &nothing(1)],
+            ),
+        ),
+        in_parts(
+            &[1; 40],
+            pieces(
+                "parts-every-byte",
+                "A byte lost, taken twice or decided on too early, where each comes alone.",
+                (3, 4),
+                &[&nothing(0), &put(1), &nothing(2)],
+            ),
+        ),
+        in_parts(
+            &[21, 1, 8, 1],
+            pieces(
+                "parts-last-byte-alone",
+                "A record's last byte alone in its part: decided without it, or only with a byte behind it.",
+                (3, 4),
+                &[&put(0), &nothing(1)],
+            ),
+        ),
+        in_parts(
+            &[256; 4],
+            pieces(
+                "parts-pages-of-256",
+                "A record of 905 bytes over four pages: a carry that is too small for it, or the page's \
+                 rest behind it lost.",
+                (100, 4),
+                &[&nothing(0), &longest, &nothing(2)],
+            ),
+        ),
+        in_parts(
+            &[30, 10],
+            pieces(
+                "parts-looks",
+                "The looks of a record that was carried told as 0: it has the verdict and the looks that \
+                 it has in one piece.",
+                (3, 4),
+                &[&put(0), &read],
+            ),
+        ),
+        in_parts(
+            &[5, 22, 8],
+            pieces(
+                "parts-decided-once",
+                "A carried record decided twice: the second record is ahead, s = 2 at p = 1, and would pass.",
+                (3, 4),
+                &[&put(0), &nothing(2), &nothing(2)],
+            ),
+        ),
+        in_parts(
+            &[4, 8],
+            pieces(
+                "parts-malformed",
+                "A malformed record across parts taken for a torn log: it answers 4, takes its position, \
+                 and the log goes on.",
+                (3, 4),
+                &[&with_length(&[9; 12]), &nothing(1)],
+            ),
+        ),
+        in_parts(
+            &[20; 11],
+            Case {
+                name: "parts-document".to_string(),
+                catches: "The log to check by in parts of 20 bytes: its eleven verdicts, whatever it is cut into."
+                    .to_string(),
+                input: table::input(),
+            },
+        ),
+    ]
+}
+
+/// How a log in parts ends.
+fn endings() -> Vec<InParts> {
+    let torn = &nothing(1)[..8];
+    vec![
+        in_parts(
+            &[10, 21],
+            pieces(
+                "parts-end-with-a-part",
+                "The end said with the last record, or not said: it is a call of its own, when the log is over.",
+                (3, 4),
+                &[&nothing(0), &put(1)],
+            ),
+        ),
+        in_parts(
+            &[12, 2],
+            pieces(
+                "parts-torn",
+                "A torn record answered 10 before the log is over, or taken for the end: what is carried \
+                 stays carried.",
+                (3, 4),
+                &[&nothing(0), torn],
+            ),
+        ),
+        in_parts(
+            &[9],
+            pieces(
+                "parts-one-byte-left",
+                "A single carried byte taken for the end.",
+                (3, 4),
+                &[&nothing(0), &[0]],
+            ),
+        ),
+        in_parts(
+            &[10, 1, 9, 9],
+            pieces(
+                "parts-impossible-length",
+                "An impossible length in two parts said only at the end, or passed over: 10 is said with its \
+                 second byte, and nothing after it.",
+                (3, 4),
+                &[&nothing(0), &[3, 0x88], &nothing(1), &nothing(2)],
+            ),
+        ),
+        in_parts(
+            &[],
+            pieces(
+                "parts-impossible-behind",
+                "An impossible length behind a record of the same part: two bytes are taken and no more, \
+                 although more are there.",
+                (3, 4),
+                &[&nothing(0), &[0, 6], &nothing(1)],
+            ),
+        ),
+        in_parts(
+            &[4, 100, 7, 0],
+            pieces(
+                "parts-past-the-end",
+                "A size past the log's end, and parts behind it: they are empty.",
+                (3, 4),
+                &[&nothing(0), &nothing(1)],
+            ),
+        ),
+        in_parts(
+            &[3, 3],
+            Case {
+                name: "parts-limits".to_string(),
+                catches: "Limits not looked at: `9` is the only line.".to_string(),
+                input: join(0, 4, &nothing(0)),
+            },
+        ),
+    ]
+}

@@ -1,0 +1,106 @@
+//! The page form with one mistake of choice or none; what it feeds is a `Feeder`.
+
+use reference::pages::{cut, line};
+use reference::{Fed, Said};
+
+pub use super::feeder::Feeder;
+use super::feeder::CARRY;
+
+mistakes! {
+    /// A mistake that one might make in feeding a log part by part (R47).
+    FeedMistake {
+        LengthFromPart: "a length whose bytes lie in two parts is read from the second part",
+        LengthFromCarry: "a length whose bytes lie in two parts is read from the carry",
+        LengthOfPart: "the length is read from the part's first bytes, whatever is carried",
+        RestLost: "the rest of a part is lost after a verdict",
+        RestCarried: "the bytes behind a decided record are carried at once",
+        AllAtOnce: "all records of a part are decided in one call",
+        CountTrusted: "a carried count is trusted",
+        CarrySizeTrusted: "a carry of more than 905 bytes is taken",
+        ImpossibleNotCarried: "an impossible length may not be carried",
+        ImpossibleLate: "an impossible length is said only when the log is over",
+        ImpossibleNotTaken: "the bytes of an impossible length are not taken",
+        ImpossibleTakesAll: "a part is taken whole with an impossible length",
+        ImpossibleForgotten: "an impossible length is not left in the carry",
+        TornEarly: "10 is said of a record that goes on in the next part",
+        TornForgotten: "10 at the end of a torn log leaves nothing carried",
+        TornIsEnd: "end is said though bytes are carried",
+        OverIgnored: "a torn log that is over asks for more",
+        OverFirst: "over is looked at before the record",
+        EmptyIsOver: "an empty part says that the log is over",
+        UnfitFirst: "7 is said before a record is in",
+        UnfitTakes: "the part is taken with 7",
+        UnfitCarries: "the record is completed in the carry before 7 is said",
+        DecidedTwice: "a carried record is decided twice",
+        CountKept: "the carried count stays after a verdict",
+        CarriedCounted: "what was carried is counted as taken",
+        LastByteLate: "a record is decided only when a byte follows it",
+        LastByteAlone: "a last byte that comes alone is taken for the next record's first",
+        LooksLost: "the looks of a carried record are 0",
+        MoreHasLooks: "the looks of the record before are told with more",
+        PartDropped: "a part in the middle of a record replaces what was carried",
+        EmptyDropsCarried: "an empty part forgets what was carried",
+        WholeCopied: "a record that lies whole in the part is copied to the carry",
+        BehindChanged: "the carry is changed behind a record that is completed in it",
+        CarryCleared: "the carry is cleared after a verdict",
+    }
+}
+
+impl FeedMistake {
+    /// Those that the page form's lines do not show: they need a carry or a count
+    /// that no call has left, an unfit pool, "over" with bytes, or a look at the
+    /// carry's bytes.
+    pub const IN_CALLS_ONLY: &'static [FeedMistake] = &[
+        FeedMistake::CountTrusted,
+        FeedMistake::CarrySizeTrusted,
+        FeedMistake::ImpossibleNotCarried,
+        FeedMistake::ImpossibleForgotten,
+        FeedMistake::OverFirst,
+        FeedMistake::UnfitFirst,
+        FeedMistake::UnfitTakes,
+        FeedMistake::UnfitCarries,
+        FeedMistake::WholeCopied,
+        FeedMistake::BehindChanged,
+        FeedMistake::CarryCleared,
+    ];
+}
+
+/// What the page form with this mistake prints.
+pub fn lines(mistake: Option<FeedMistake>, input: &[u8], sizes: &[usize]) -> String {
+    let Some((limits, log)) = limits(input) else {
+        return "9\n".to_string();
+    };
+    let mut feeder = Feeder::new(mistake, limits, vec![0; CARRY]);
+    let mut text = String::new();
+    let mut carried = 0;
+    for part in cut(log, sizes) {
+        let mut rest = part;
+        loop {
+            let fed = feeder.feed(carried, rest, false);
+            text += &line(&fed);
+            let stuck = fed.taken == 0 && !rest.is_empty();
+            if fed.said == Said::End || stuck || refuses(&fed) {
+                return text;
+            }
+            (rest, carried) = (&rest[fed.taken..], fed.carried);
+            if rest.is_empty() {
+                break;
+            }
+        }
+    }
+    text + &line(&feeder.feed(carried, &[], true))
+}
+
+/// N and Z if they are good, and the log.
+fn limits(input: &[u8]) -> Option<((u32, u32), &[u8])> {
+    let (head, log) = input.split_first_chunk::<8>()?;
+    let limits = u64::from_be_bytes(*head);
+    let (n, z) = ((limits >> 32) as u32, limits as u32);
+    let good = (1..=1_000).contains(&n) && (1..=4_096).contains(&z);
+    good.then_some(((n, z), log))
+}
+
+/// Does it say 7, 8 or 10?
+fn refuses(fed: &Fed) -> bool {
+    matches!(fed.said, Said::Answer(answer) if answer.number() >= 7)
+}

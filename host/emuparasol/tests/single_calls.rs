@@ -1,0 +1,104 @@
+//! Single calls of feed (R47) as C makes them, right ones and wrong ones, against the
+//! reference: what is said, the pool, and every byte of the carry.
+
+mod common;
+
+use common::{bytes, fresh, longs, means, raw, size, words, Guarded};
+use compare::calls::Call;
+use emuparasol::calls;
+use reference::feed::CARRY_BYTES;
+use reference::table::record;
+use reference::{feed, Answer, Fed, Limits, Point, Said, State};
+
+/// What a call says, and the carry and the pool that it leaves.
+type Told = (Fed, Vec<u8>, Vec<u8>);
+
+/// The call as C makes it, everything between guards.
+fn call(pool: &[u8], carry: &[u8], carried: usize, part: &[u8], over: bool) -> Told {
+    let (mut pool, mut carry, mut lent) = (bytes(pool), bytes(carry), bytes(part));
+    let (mut count, mut taken) = (longs(&[carried as u64]), size());
+    let (mut happened, mut looks) = (Guarded::new(&[99], 0x5A), words(&[79]));
+    let answer = calls::feed(
+        pool.lent(),
+        carry.lent(),
+        &mut count.lent()[0],
+        lent.lent(),
+        over,
+        &mut happened.lent()[0],
+        &mut looks.lent()[0],
+        &mut taken.lent()[0],
+    );
+    lent.same(part);
+    let fed = Fed {
+        said: said(happened.number(), answer),
+        looks: looks.number(),
+        taken: taken.number() as usize,
+        carried: count.number() as usize,
+    };
+    (fed, carry.back(), pool.back())
+}
+
+/// What is said, from the number of what happened and the answer.
+fn said(happened: u8, answer: u8) -> Said {
+    let refusals = [Answer::UnfitPool, Answer::OutputShort, Answer::BrokenLog];
+    match (happened, Answer::ALL[usize::from(answer)]) {
+        (0, answer) if refusals.contains(&answer) => Said::Answer(answer),
+        (1, answer) if answer < Answer::UnfitPool => Said::Answer(answer),
+        (2, Answer::Committed) => Said::More,
+        (3, Answer::Committed) => Said::End,
+        _ => panic!("{happened} happened, with answer {answer}"),
+    }
+}
+
+#[test]
+fn calls_from_seeds_say_and_leave_what_the_reference_does() {
+    let mut refused = 0;
+    for seed in 0..4_000 {
+        let lent = Call::of(seed);
+        let (mut pool, mut state) = (fresh(lent.limits), State::new(lent.limits));
+        for record in &lent.melded {
+            raw::meld(&mut pool, record);
+            state.meld(record);
+        }
+        if !lent.fit {
+            pool[3] ^= 1;
+        }
+        let before = pool.clone();
+        let mut carry = lent.carry.clone();
+        let fit = lent.fit.then_some(&mut state);
+        let wanted = feed(fit, &mut carry, lent.carried, &lent.part, lent.over);
+        let (fed, left, after) = call(&pool, &lent.carry, lent.carried, &lent.part, lent.over);
+        assert_eq!((fed, left), (wanted, carry), "seed {seed}");
+        let decided = matches!(fed.said, Said::Answer(answer) if answer < Answer::UnfitPool);
+        assert!(decided || after == before, "seed {seed}");
+        if lent.fit {
+            means(&after, &state);
+        }
+        refused += usize::from(fed.said == Said::Answer(Answer::OutputShort));
+    }
+    assert!(refused > 100);
+}
+
+#[test]
+fn with_6_the_record_is_taken_and_the_pool_is_as_it_was() {
+    let limits = Limits::new(3, 4).unwrap();
+    let mut pool = fresh(limits);
+    pool[12..16].copy_from_slice(&u32::MAX.to_be_bytes());
+    let put = record(0, &[Point::put(10, 100)]).to_bytes();
+    let log = [&put[..], &put].concat();
+    for carried in 0..put.len() {
+        let mut carry = vec![0xC3; CARRY_BYTES];
+        carry[..carried].copy_from_slice(&put[..carried]);
+        let (fed, left, after) = call(&pool, &carry, carried, &log[carried..], false);
+        let mut state = State::empty_at(limits, u32::MAX);
+        let wanted = feed(
+            Some(&mut state),
+            &mut carry,
+            carried,
+            &log[carried..],
+            false,
+        );
+        assert_eq!(fed.said, Said::Answer(Answer::PositionsUsedUp));
+        assert_eq!((fed, left, &after), (wanted, carry, &pool));
+    }
+}
