@@ -40,6 +40,15 @@ static void read_on_pages(struct card *card, uint64_t bytes) {
     printf("  caught up: %u\n", (unsigned)card_catch_up(card));
 }
 
+/* What the left card is told if the log is over behind these bytes: what a card that waits for more never says. */
+static void over(const char *where, const uint8_t *bytes, uint64_t count) {
+    uint32_t looks;
+    uint64_t taken;
+    uint8_t happened, answer = emuparasol_feed(left.pool, sizeof left.pool, left.carry, sizeof left.carry, &left.carried, bytes, count, true, &happened,
+                                               &looks, &taken);
+    printf("the log is over %s: %s\n", where, happened == EMUPARASOL_END ? "end" : emuparasol_answer_name(answer));
+}
+
 static void right_submits(void) {
     uint8_t record[EMUPARASOL_MOST_RECORD];
     before = 0;
@@ -61,6 +70,8 @@ int main(void) {
     read_on_pages(&left, 256);
     read_on_pages(&right, 2048);
     printf("pools %s\n", stage_pools());
+    over("here", NULL, 0);
+    over("after five bytes more", malformed, 5);
 
     printf("a record of 841 bytes, torn after 700:\n");
     stage_clear();
