@@ -26,7 +26,7 @@ static uint8_t record_at(uint64_t place, uint8_t part[EMUPARASOL_MOST_RECORD], u
 }
 
 /* Takes a page's bytes, which go on where the card is. A page may end anywhere: what it has of a record whose end is on the next one is carried. Answers 0
-   when all is taken, and else 10, 6 or 7 as from card_catch_up. */
+   when all is taken, 10 and 6 as card_catch_up, 7 and 8 if the pool or the carry was damaged. */
 static uint8_t take(struct card *card, const uint8_t *page, uint64_t length) {
     for (;;) {
         uint64_t before = card->carried, taken;
@@ -47,7 +47,7 @@ static uint8_t take(struct card *card, const uint8_t *page, uint64_t length) {
 }
 
 /* Melds what the log has and the card has not seen, page by page. Answers 0 when there is no more, or a record that is not all there yet; 10 if no record
-   can begin there; 6 if this log has used up its positions; 7 if the pool was damaged and was so again when it had been built anew. */
+   can begin there; 6 if this log has used up its positions; 7 if the pool or the carry was damaged and was so again when all had been built anew. */
 uint8_t card_catch_up(struct card *card) {
     uint8_t page[CARD_PAGE];
     uint32_t cuts, first_cuts = 0;
@@ -65,7 +65,9 @@ uint8_t card_catch_up(struct card *card) {
         if (got == 0)
             return EMUPARASOL_COMMITTED;
         uint8_t answer = take(card, page, got);
-        if (answer == EMUPARASOL_UNFIT_POOL && !again) { /* something wrote into the pool: build it again, but not for ever */
+        if (answer == EMUPARASOL_UNFIT_POOL || answer == EMUPARASOL_OUTPUT_SHORT) { /* something wrote there: build it again, but not for ever */
+            if (again)
+                return EMUPARASOL_UNFIT_POOL;
             again = true;
             card_start(card);
         } else if (answer != EMUPARASOL_COMMITTED) {
