@@ -7,9 +7,10 @@
      cost library|plain CALL N KEYS POINTS FILE [skip|stack|compare]
    CALL is look (lookup of an absent key), status, or a meld of POINTS points: kept (puts of kept keys), new (puts of other keys), read (reads of kept keys),
    old (reads of other keys, with half the position as snapshot), scans (POINTS scans between neighbouring kept keys, the same snapshot), fullest (64
-   reads and 8 scans of the 72 numbers, with the position before their combs as snapshot). The others have the position as snapshot. With skip the
-   call is left out; with stack the bytes of stack it used are printed; with compare both are called, and their answers, looks and bytes have to be
-   the same. The status is the call's answer, or one of those below. */
+   reads and 8 scans of the 72 numbers, with the position before their combs as snapshot). The others have the position as snapshot. Three calls feed the
+   record of kept: fed (all of it in the part, and nothing carried), begun (its first byte carried, the others in the part), more (all of it but its last
+   byte in the part, so that none is decided). With skip the call is left out; with stack the bytes of stack it used are printed; with compare both are
+   called, and their answers, looks, numbers and bytes have to be the same. The status is the call's answer, or one of those below. */
 #include <stdio.h>
 #include <stdlib.h>
 #include <string.h>
@@ -147,8 +148,21 @@ static uint64_t prepare(const char *call, uint32_t points, uint8_t *record) {
     return record_of(record, strcmp(call, "old") ? p : p / 2, some, points, reads ? EMUPARASOL_KIND_READ : EMUPARASOL_KIND_PUT, &n, &n, 0);
 }
 
+/* What feed is lent besides the pool, and what it tells. */
+enum call { LOOK, STATUS, MELD, FED, BEGUN, MORE };
+static struct {
+    uint8_t carry[EMUPARASOL_CARRY_BYTES], happened;
+    uint64_t carried, part, taken;
+} fed;
+
+static void lend(enum call call, const uint8_t *record, uint64_t size) {
+    memset(&fed, 0, sizeof fed);
+    fed.carry[0] = record[0];
+    fed.carried = call == BEGUN ? 1 : 0;
+    fed.part = call == FED ? size : size - 1;
+}
+
 /* Makes the call; instead of looks a lookup gives the position found, and status the tombstones. */
-enum call { LOOK, STATUS, MELD };
 static uint8_t make_call(bool plain, enum call call, const uint8_t *record, uint64_t size, uint32_t *looks) {
     uint64_t payload;
     uint32_t limit, zone, position, kept;
@@ -156,7 +170,10 @@ static uint8_t make_call(bool plain, enum call call, const uint8_t *record, uint
         return (plain ? plain_lookup : emuparasol_lookup)(pool, length, key_of(keys + 1), &payload, looks);
     if (call == STATUS)
         return (plain ? plain_status : emuparasol_status)(pool, length, &limit, &zone, &position, &kept, looks);
-    return (plain ? plain_meld : emuparasol_meld)(pool, length, record, size, looks);
+    if (call == MELD)
+        return (plain ? plain_meld : emuparasol_meld)(pool, length, record, size, looks);
+    return (plain ? plain_feed : emuparasol_feed)(pool, length, fed.carry, sizeof fed.carry, &fed.carried, record + fed.carried, fed.part, false,
+                                                  &fed.happened, looks, &fed.taken);
 }
 
 /* Paints the stack below its caller's, or answers how much of the paint is gone. */
@@ -189,10 +206,17 @@ int main(int argc, char **argv) {
         return MISUSED;
     fclose(f);
     uint8_t record[EMUPARASOL_MOST_RECORD];
-    enum call which = !strcmp(call, "look") ? LOOK : !strcmp(call, "status") ? STATUS : MELD;
-    uint64_t size = which == MELD ? prepare(call, third, record) : 0;
+    enum call which = !strcmp(call, "look")     ? LOOK
+                      : !strcmp(call, "status") ? STATUS
+                      : !strcmp(call, "fed")    ? FED
+                      : !strcmp(call, "begun")  ? BEGUN
+                      : !strcmp(call, "more")   ? MORE
+                                                : MELD;
+    uint64_t size = which == LOOK || which == STATUS ? 0 : prepare(call, third, record);
     uint32_t looks = 0;
     uint8_t answer = EMUPARASOL_COMMITTED;
+    if (which >= FED)
+        lend(which, record, size);
     if (!strcmp(more, "stack")) {
         stack(true);
         answer = make_call(plain, which, record, size, &looks);
@@ -204,9 +228,13 @@ int main(int argc, char **argv) {
         uint32_t other_looks = 0;
         memcpy(once, pool, length);
         answer = make_call(false, which, record, size, &looks);
-        uint8_t *after = pool;
+        uint8_t *after = pool, told[sizeof fed];
         pool = once;
-        if (make_call(true, which, record, size, &other_looks) != answer || other_looks != looks || memcmp(after, once, length) != 0)
+        memcpy(told, &fed, sizeof fed);
+        if (which >= FED)
+            lend(which, record, size);
+        if (make_call(true, which, record, size, &other_looks) != answer || other_looks != looks || memcmp(after, once, length) != 0 ||
+            memcmp(told, &fed, sizeof fed) != 0)
             return DIFFERENT;
         printf("answer %u, %s %u, kept %u\n", answer, which == STATUS ? "tombstones" : "looks", looks, word_at(pool + 16));
     }

@@ -481,11 +481,10 @@ static enum room room_for(const uint8_t *pool, const struct record *r, uint32_t 
     return kept + absent + revived - (kept > 0 ? count_old(pool, get(pool + ROOT), limit) : 0) <= n ? AFTER_A_DROP : TOO_LITTLE;
 }
 
-uint8_t plain_meld(uint8_t *pool, uint64_t pool_length, const uint8_t *record, uint64_t record_length, uint32_t *looks) {
+/* Melds into a pool that is fit. */
+static uint8_t meld_fit(uint8_t *pool, const uint8_t *record, uint64_t record_length, uint32_t *looks) {
     struct record r;
     *looks = 0;
-    if (!fits(pool, pool_length))
-        return EMUPARASOL_UNFIT_POOL;
     uint32_t p = get(pool + POSITION), v = p + 1, zone = get(pool + ZONE);
     if (p == NONE)
         return EMUPARASOL_POSITIONS_USED_UP;
@@ -514,5 +513,72 @@ uint8_t plain_meld(uint8_t *pool, uint64_t pool_length, const uint8_t *record, u
     for (int i = 0; i < r.points; i++)
         if (r.kinds[i] != EMUPARASOL_KIND_READ)
             put(pool, r.keys[i], v, r.payloads[i], r.kinds[i] == EMUPARASOL_KIND_PUT ? LIVE : TOMBSTONE);
+    return EMUPARASOL_COMMITTED;
+}
+
+uint8_t plain_meld(uint8_t *pool, uint64_t pool_length, const uint8_t *record, uint64_t record_length, uint32_t *looks) {
+    *looks = 0;
+    return fits(pool, pool_length) ? meld_fit(pool, record, record_length, looks) : (uint8_t)EMUPARASOL_UNFIT_POOL;
+}
+
+/* The two bytes of a record's length, one of which may lie in the carry. */
+static inline uint64_t length_of(uint8_t high, uint8_t low) { return (uint64_t)(high << 8 | low); }
+static inline bool impossible(uint64_t length) { return length < 7 || length > 903; }
+
+/* Whether a call leaves such a carry. */
+static bool may_carry(const uint8_t *carry, uint64_t carry_length, uint64_t carried) {
+    if (carry_length != EMUPARASOL_CARRY_BYTES)
+        return false;
+    if (carried < 2)
+        return true;
+    uint64_t length = length_of(carry[0], carry[1]);
+    return impossible(length) ? carried == 2 : carried < 2 + length;
+}
+
+uint8_t plain_feed(uint8_t *pool, uint64_t pool_length, uint8_t *carry, uint64_t carry_length, uint64_t *carried, const uint8_t *part,
+                   uint64_t part_length, bool over, uint8_t *happened, uint32_t *looks, uint64_t *taken) {
+    uint64_t before = *carried;
+    *happened = EMUPARASOL_REFUSED;
+    *looks = 0;
+    *taken = 0;
+    if (!may_carry(carry, carry_length, before))
+        return EMUPARASOL_OUTPUT_SHORT;
+    bool known = before >= 2 || part_length >= 2 - before;
+    uint64_t size = 0;
+    if (known) {
+        uint64_t length = length_of(before > 0 ? carry[0] : part[0], before > 1 ? carry[1] : part[1 - before]);
+        if (impossible(length)) {
+            uint64_t fresh = 2 - before;
+            if (fresh > 0)
+                memcpy(carry + before, part, fresh);
+            *taken = fresh;
+            *carried = 2;
+            return EMUPARASOL_BROKEN_LOG;
+        }
+        size = 2 + length;
+    }
+    if (known && part_length >= size - before) {
+        uint64_t rest = size - before;
+        if (!fits(pool, pool_length))
+            return EMUPARASOL_UNFIT_POOL;
+        if (before > 0)
+            memcpy(carry + before, part, rest);
+        uint8_t answer = meld_fit(pool, before > 0 ? carry : part, size, looks);
+        *happened = EMUPARASOL_DECIDED;
+        *taken = rest;
+        *carried = 0;
+        return answer;
+    }
+    if (!over) {
+        if (part_length > 0)
+            memcpy(carry + before, part, part_length);
+        *happened = EMUPARASOL_MORE;
+        *taken = part_length;
+        *carried = before + part_length;
+        return EMUPARASOL_COMMITTED;
+    }
+    if (before + part_length > 0)
+        return EMUPARASOL_BROKEN_LOG;
+    *happened = EMUPARASOL_END;
     return EMUPARASOL_COMMITTED;
 }

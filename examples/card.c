@@ -8,6 +8,7 @@ void card_start(struct card *card) {
     emuparasol_create(card->pool, sizeof card->pool, CARD_KEYS, CARD_ZONE);
     card->place = 0;
     card->records = 0;
+    card->carried = 0;
 }
 
 /* The record that begins at a place of the log. Answers 0 with its bytes in part and its size; the size is 0 if the log ends there, or with a record that
@@ -24,31 +25,53 @@ static uint8_t record_at(uint64_t place, uint8_t part[EMUPARASOL_MOST_RECORD], u
     return answer;
 }
 
-/* Melds what the log has and the card has not seen. Answers 0 when there is no more, or a record that is not all there yet; 10 if no record can begin
-   there; 6 if this log has used up its positions; 7 if the pool was damaged and was so again when it had been built anew. */
-uint8_t card_catch_up(struct card *card) {
-    uint8_t part[EMUPARASOL_MOST_RECORD] = {0};
-    bool again = false;
+/* Takes a page's bytes, which go on where the card is. A page may end anywhere: what it has of a record whose end is on the next one is carried. Answers 0
+   when all is taken, 10 and 6 as card_catch_up, 7 and 8 if the pool or the carry was damaged. */
+static uint8_t take(struct card *card, const uint8_t *page, uint64_t length) {
     for (;;) {
-        uint64_t size;
-        uint8_t answer = record_at(card->place, part, &size);
-        if (size == 0)
-            return answer;
+        uint64_t before = card->carried, taken;
         uint32_t looks;
-        answer = emuparasol_meld(card->pool, sizeof card->pool, part, size, &looks);
-        switch (answer) {
-        case EMUPARASOL_UNFIT_POOL: /* something wrote into the pool: build it again, but not for ever */
+        uint8_t happened, answer = emuparasol_feed(card->pool, sizeof card->pool, card->carry, sizeof card->carry, &card->carried, page, length, false,
+                                                   &happened, &looks, &taken);
+        if (happened == EMUPARASOL_MORE) /* the next page goes on */
+            return EMUPARASOL_COMMITTED;
+        if (happened == EMUPARASOL_REFUSED || answer == EMUPARASOL_POSITIONS_USED_UP)
+            return answer;
+        /* 0 to 5: the record has its position and its verdict, the same on every card, and is never melded again */
+        card->place += before + taken;
+        card->records++;
+        card_verdict(card, card->records, answer);
+        page += taken;
+        length -= taken;
+    }
+}
+
+/* Melds what the log has and the card has not seen, page by page. Answers 0 when there is no more, or a record that is not all there yet; 10 if no record
+   can begin there; 6 if this log has used up its positions; 7 if the pool or the carry was damaged and was so again when all had been built anew. */
+uint8_t card_catch_up(struct card *card) {
+    uint8_t page[CARD_PAGE];
+    uint32_t cuts, first_cuts = 0;
+    bool again = false;
+    /* What was carried when the log last ended may have been cut off since: the record is read again from its first byte. */
+    card->carried = 0;
+    for (;;) {
+        uint64_t got = flash_page(card->place + card->carried, page, &cuts);
+        if (card->carried == 0) {
+            first_cuts = cuts;
+        } else if (cuts != first_cuts) { /* so may what is carried now, before this page was read */
+            card->carried = 0;
+            continue;
+        }
+        if (got == 0)
+            return EMUPARASOL_COMMITTED;
+        uint8_t answer = take(card, page, got);
+        if (answer == EMUPARASOL_UNFIT_POOL || answer == EMUPARASOL_OUTPUT_SHORT) { /* something wrote there: build it again, but not for ever */
             if (again)
-                return answer;
+                return EMUPARASOL_UNFIT_POOL;
             again = true;
             card_start(card);
-            break;
-        case EMUPARASOL_POSITIONS_USED_UP: /* nothing was changed, and nothing will be: this log is full */
+        } else if (answer != EMUPARASOL_COMMITTED) {
             return answer;
-        default: /* 0 to 5: the record has its position and its verdict, the same on every card, and is never melded again */
-            card->place += size;
-            card->records++;
-            card_verdict(card, card->records, answer);
         }
     }
 }

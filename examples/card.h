@@ -6,12 +6,16 @@
 
 /* N and Z: the same on every card that shares the log. */
 enum { CARD_KEYS = 1000, CARD_ZONE = 256 };
+/* The largest page that the flash hands over. */
+enum { CARD_PAGE = 2048 };
 
 /* All that a card keeps. The log is on flash; this is only memory. */
 struct card {
     uint8_t pool[EMUPARASOL_POOL_BYTES(CARD_KEYS)];
-    uint64_t place;   /* where the next record begins in the log */
-    uint32_t records; /* how many were melded */
+    uint64_t place;                        /* where the next record begins in the log */
+    uint32_t records;                      /* how many were melded */
+    uint8_t carry[EMUPARASOL_CARRY_BYTES]; /* the front of a record that goes on in the next page */
+    uint64_t carried;                      /* how many bytes of it are there */
 };
 
 /* The firmware's own. */
@@ -21,6 +25,8 @@ void flash_lock(void);
 void flash_unlock(void);
 /* Copies the log's bytes from a place on, at most so many as there is room for, as they stand at one moment, and answers how many. */
 uint64_t flash_read(uint64_t place, uint8_t *to, uint64_t room);
+/* The same up to the end of the page in which the place lies. *cuts is how often the log had been cut off at that moment. */
+uint64_t flash_page(uint64_t place, uint8_t to[CARD_PAGE], uint32_t *cuts);
 /* Under the lock: ends the log at this place, for all cards. False if the flash refuses. */
 bool flash_cut_off(uint64_t place);
 /* Under the lock: puts a record at the log's end. True if all of it is there; else a part from its front may be, and no other bytes. */

@@ -9,9 +9,10 @@ enum { ROOM = 16384 };
 struct card left, right;
 
 static uint8_t flash[ROOM];
-static uint64_t written, fails_after = ROOM;
+static uint64_t written, fails_after = ROOM, page_size = 256;
+static uint32_t cuts_made;
 static bool locked;
-static void (*meanwhile)(void);
+static void (*meanwhile)(void), (*between)(void);
 
 static void expect(bool holds, const char *what) {
     if (!holds)
@@ -39,9 +40,20 @@ uint64_t flash_read(uint64_t place, uint8_t *to, uint64_t room) {
     return count;
 }
 
+uint64_t flash_page(uint64_t place, uint8_t to[CARD_PAGE], uint32_t *cuts) {
+    void (*other)(void) = between;
+    if (other != NULL && place > 0 && place % page_size == 0) {
+        between = NULL;
+        other();
+    }
+    *cuts = cuts_made;
+    return flash_read(place, to, page_size - place % page_size);
+}
+
 bool flash_cut_off(uint64_t place) {
     expect(locked, "cut off without the lock");
     written = place;
+    cuts_made++;
     return true;
 }
 
@@ -61,6 +73,10 @@ void stage_clear(void) {
 }
 
 void stage_meanwhile(void (*other)(void)) { meanwhile = other; }
+
+void stage_between_pages(void (*other)(void)) { between = other; }
+
+void stage_page_size(uint64_t bytes) { page_size = bytes; }
 
 void stage_fail_after(uint64_t bytes) { fails_after = bytes; }
 

@@ -10,6 +10,10 @@ extern struct card left, right;
 void stage_clear(void);
 /* What another card does while the next one waits for the lock. */
 void stage_meanwhile(void (*other)(void));
+/* What another card does before the next page is read, which is not the log's first. */
+void stage_between_pages(void (*other)(void));
+/* How many bytes a page has from now on, at most CARD_PAGE; 256 at first. */
+void stage_page_size(uint64_t bytes);
 /* The next append takes so many bytes and fails. */
 void stage_fail_after(uint64_t bytes);
 /* These bytes behind what is in the log, whoever wrote them. */

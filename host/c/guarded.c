@@ -1,9 +1,10 @@
 /* The library's compiled code against plain C (bench/plain.c), call by call, in memory where nothing can be touched unseen:
      guarded [SECONDS [SEED]]
    What is lent stands at the very end or the very start of a mapped area, with unmapped pages around it; what is lent to be read is lent through a
-   mapping that cannot be written; what has no elements is often lent as NULL. Pools and records are made at random, whole and damaged, and all ten functions are called. After each call the
-   answer, every number and every byte of every area must be what plain C leaves. At the first difference, and at an access that is not allowed, the
-   seed and the call are printed and the status is 1. The same seed makes the same calls. */
+   mapping that cannot be written; what has no elements is often lent as NULL. Pools and records are made at random, whole and damaged, logs are cut
+   anywhere, carries are lent as a call has left them and as none does, and all eleven functions are called. After each call the answer, every number and
+   every byte of every area must be what plain C leaves. At the first difference, and at an access that is not allowed, the seed and the call are
+   printed and the status is 1. The same seed makes the same calls. */
 #define _DEFAULT_SOURCE
 #include <signal.h>
 #include <stdio.h>
@@ -19,7 +20,7 @@
 enum { PAGE = 65536, FILLED = 0xA5, MOST_N = 1000, POOL_ROOM = 64 + 64 * MOST_N + 256, RECORD_ROOM = 1200, LIST = 70, PAIRS = 10 };
 
 static uint64_t seed, calls, state;
-static unsigned long answers[16];
+static unsigned long answers[16], happenings[4], completed;
 static const char *doing = "";
 
 /* Random numbers (xorshift64*), below a limit. */
@@ -102,7 +103,7 @@ static void same(struct area *a, const void *bytes, const char *what) {
             fail("a byte behind what was lent was written");
 }
 
-static struct area pool_area, record_area, output_area, kinds_area, keys_area, payloads_area, lows_area, highs_area, number_areas[5];
+static struct area pool_area, record_area, output_area, carry_area, carried_area, happened_area, kinds_area, keys_area, payloads_area, lows_area, highs_area, number_areas[5];
 
 /* A number lent to be written; what it is before must not matter. */
 static void *number(int which, size_t bytes) {
@@ -274,6 +275,81 @@ static void try_meld(uint8_t *bytes, uint64_t length) {
     same(&record_area, record, "the record was written");
 }
 
+/* The log of this episode that feed has not taken yet, and what it carries, as plain C has it. */
+static uint8_t stream[2 * RECORD_ROOM], carry[EMUPARASOL_CARRY_BYTES];
+static uint64_t stream_length, carried;
+
+/* One call of feed, with so many bytes of the stream as the part. */
+static uint8_t feed(uint8_t *bytes, uint64_t length, uint8_t *carrying, uint64_t room, uint64_t *count, uint64_t part, uint64_t *taken) {
+    uint8_t happened;
+    uint32_t looks;
+    uint64_t before = *count;
+    bool over = one_in(6);
+    doing = "feed";
+    place(&pool_area, bytes, length);
+    place(&carry_area, carrying, room);
+    place(&record_area, stream, part);
+    place(&carried_area, count, 8);
+    place(&happened_area, stream, 1);
+    uint32_t *to_looks = number(0, 4);
+    uint64_t *to_taken = number(1, 8);
+    uint8_t answer = emuparasol_feed(lent(&pool_area), length, lent(&carry_area), room, (uint64_t *)(void *)lent(&carried_area), shown(&record_area),
+                                     part, over, lent(&happened_area), to_looks, to_taken);
+    answered(answer, plain_feed(bytes, length, carrying, room, count, stream, part, over, &happened, &looks, taken));
+    same(&happened_area, &happened, "what happened differs");
+    same(&carried_area, count, "the numbers carried differ");
+    told(0, &looks, "the looks differ");
+    told(1, taken, "the numbers taken differ");
+    same(&pool_area, bytes, "the pools differ");
+    same(&carry_area, carrying, "the carries differ");
+    same(&record_area, stream, "the part was written");
+    happenings[happened & 3]++;
+    completed += happened == EMUPARASOL_DECIDED && before > 0;
+    return answer;
+}
+
+/* A carry of any size, with any bytes, and any number of them carried: a length that can be or cannot at its front, and a count about as large. */
+static void feed_anything(uint8_t *bytes, uint64_t length, uint64_t part) {
+    static uint8_t odd[RECORD_ROOM];
+    static const uint64_t rooms[] = {0, 1, 2, EMUPARASOL_CARRY_BYTES - 1, EMUPARASOL_CARRY_BYTES + 1, RECORD_ROOM};
+    static const uint64_t lengths[] = {0, 6, 7, 8, 903, 904, 65535};
+    uint64_t said = one_in(2) ? lengths[below(7)] : below(1000), taken, room = one_in(3) ? rooms[below(6)] : EMUPARASOL_CARRY_BYTES;
+    uint64_t counts[] = {0, 1, 2, 3, said, said + 1, said + 2, said + 3, below(1000), ~(uint64_t)below(3), (uint64_t)any() << 32 | any()};
+    uint64_t count = counts[below(11)];
+    for (uint64_t i = 0; i < sizeof odd; i++)
+        odd[i] = (uint8_t)any();
+    odd[0] = (uint8_t)(said >> 8);
+    odd[1] = (uint8_t)said;
+    feed(bytes, length, odd, room, &count, part, &taken);
+}
+
+static void try_feed(uint8_t *bytes, uint64_t length) {
+    uint64_t taken, part;
+    while (stream_length < 40 || (one_in(2) && stream_length < RECORD_ROOM / 2)) {
+        stream_length += make_record(stream + stream_length);
+        if (one_in(40))
+            stream[stream_length++] = (uint8_t)any();
+    }
+    switch (below(6)) {
+    case 0: part = 0; break;
+    case 1: part = 1; break;
+    case 2: part = below(12); break;
+    default: part = below((uint32_t)stream_length + 1);
+    }
+    if (part > RECORD_ROOM)
+        part = RECORD_ROOM;
+    if (one_in(4)) {
+        feed_anything(bytes, length, part);
+        return;
+    }
+    if (feed(bytes, length, carry, sizeof carry, &carried, part, &taken) == EMUPARASOL_BROKEN_LOG && one_in(2)) {
+        carried = stream_length = 0; /* nothing more comes of this log */
+        return;
+    }
+    stream_length -= taken;
+    memmove(stream, stream + taken, stream_length);
+}
+
 static void try_refresh(uint8_t *bytes, uint64_t length) {
     static uint8_t record[RECORD_ROOM], output[RECORD_ROOM];
     uint64_t size = make_record(record), room = one_in(4) ? below((uint32_t)size + 20) : size + below(20), offset, part;
@@ -381,6 +457,7 @@ static void expected(uint8_t answer, uint8_t right) {
     answered(answer, right);
 }
 static void try_nothing(void) {
+    uint8_t h = 9, empty[EMUPARASOL_CARRY_BYTES] = {0};
     uint64_t a = 1, b = 1, c = 1;
     uint32_t p = 1, q = 1, r = 1, s = 1, t = 1;
     doing = "nothing lent";
@@ -388,6 +465,14 @@ static void try_nothing(void) {
     expected(emuparasol_status(NULL, 0, &p, &q, &r, &s, &t), EMUPARASOL_UNFIT_POOL);
     expected(emuparasol_lookup(NULL, 0, key(), &a, &p), EMUPARASOL_UNFIT_POOL);
     expected(emuparasol_meld(NULL, 0, NULL, 0, &p), EMUPARASOL_UNFIT_POOL);
+    expected(emuparasol_feed(NULL, 0, NULL, 0, &a, NULL, 0, one_in(2), &h, &p, &b), EMUPARASOL_OUTPUT_SHORT);
+    a = 0;
+    expected(emuparasol_feed(NULL, 0, empty, sizeof empty, &a, NULL, 0, true, &h, &p, &b), EMUPARASOL_COMMITTED);
+    if (h != EMUPARASOL_END)
+        fail("no end where nothing was lent and the log is over");
+    expected(emuparasol_feed(NULL, 0, empty, sizeof empty, &a, NULL, 0, false, &h, &p, &b), EMUPARASOL_COMMITTED);
+    if (h != EMUPARASOL_MORE)
+        fail("something else than more where nothing was lent");
     expected(emuparasol_refresh(NULL, 0, NULL, 0, NULL, 0), EMUPARASOL_UNFIT_POOL);
     expected(emuparasol_in_force((uint8_t)below(12), NULL, 0, NULL, 0, &a, &b), false);
     expected(emuparasol_check(NULL, 0), EMUPARASOL_MALFORMED);
@@ -410,14 +495,17 @@ static void episode(void) {
         try_nothing();
     pool_length = EMUPARASOL_POOL_BYTES(n);
     try_create(n, z, pool_length);
+    carried = stream_length = 0;
     for (int round = 0; round < 60; round++) {
-        switch (below(8)) {
+        switch (below(10)) {
         case 0:
             try_lookup(pool, pool_length);
             try_status(pool, pool_length);
             break;
         case 1: try_refresh(pool, pool_length); break;
         case 2: try_record(); break;
+        case 5:
+        case 6: try_feed(pool, pool_length); break;
         case 3:
         case 4: {
             memcpy(copy, pool, pool_length);
@@ -428,6 +516,8 @@ static void episode(void) {
                 try_status(copy, length);
             if (one_in(2))
                 try_refresh(copy, length);
+            if (one_in(2))
+                try_feed(copy, length);
             try_meld(copy, length);
             break;
         }
@@ -451,6 +541,9 @@ int main(int argc, char **argv) {
     pool_area = area_of(POOL_ROOM);
     record_area = area_of(RECORD_ROOM);
     output_area = area_of(RECORD_ROOM);
+    carry_area = area_of(RECORD_ROOM);
+    carried_area = area_of(8);
+    happened_area = area_of(1);
     kinds_area = area_of(LIST);
     keys_area = area_of(4 * LIST);
     payloads_area = area_of(8 * LIST);
@@ -469,6 +562,10 @@ int main(int argc, char **argv) {
         if (answers[i] == 0)
             fail("\nan answer did not occur");
     }
-    printf("\n");
+    printf("\nfed: refused %lu, decided %lu (%lu of them begun in the carry), more %lu, end %lu\n", happenings[EMUPARASOL_REFUSED],
+           happenings[EMUPARASOL_DECIDED], completed, happenings[EMUPARASOL_MORE], happenings[EMUPARASOL_END]);
+    for (int i = 0; i < 4; i++)
+        if (happenings[i] == 0 || completed == 0)
+            fail("something that feed does did not happen");
     return 0;
 }

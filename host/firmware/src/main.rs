@@ -4,7 +4,8 @@
 //! cannot be read to its end, or is longer than there is room for.
 //!
 //! Along the way each record is taken apart and written again, refreshed and looked
-//! up; where anything is not as it must be, a line `DIFFERS` goes out.
+//! up, and the log is fed page by page into a second pool, which must say and become the
+//! same; where anything is not as it must be, a line `DIFFERS` goes out.
 //!
 //! What a panic would call is not there to be linked. So the program is built (with
 //! `--release`) only if nothing in it can panic: neither here nor in the crate. With
@@ -15,8 +16,8 @@
 mod system;
 
 use emuparasol::{
-    check, in_force, pool_bytes, Error, Limits, Point, Pool, Record, RecordBuffer, Records,
-    Verdict, LEAST_RECORD, MOST_RECORD,
+    check, in_force, pool_bytes, Carry, Error, Fed, Limits, Melded, Point, Pool, Record,
+    RecordBuffer, Records, Verdict, LEAST_RECORD, MOST_RECORD,
 };
 use system::{read_all, say, say_number};
 
@@ -24,6 +25,8 @@ use system::{read_all, say, say_number};
 const MOST_N: u32 = 1_000;
 /// The longest input.
 const MOST_INPUT: usize = 1 << 20;
+/// The bytes of a page.
+const PAGE: usize = 256;
 
 /// The number in four bytes, most significant first.
 fn word(bytes: &[u8; 4]) -> u32 {
@@ -77,13 +80,60 @@ fn stored<B: AsRef<[u8]>>(pool: &Pool<B>, record: Record<'_>, position: u32) -> 
     record.points.iter().all(seen)
 }
 
+/// A log that comes in pages, and a pool that is fed with them.
+struct Paged<'a> {
+    pool: Pool<&'a mut [u8]>,
+    carry: Carry,
+    /// What was read of the log and is not taken yet.
+    page: &'a [u8],
+    /// The log behind it.
+    log: &'a [u8],
+}
+
+impl Paged<'_> {
+    /// The next record decided; none at the log's end.
+    fn next(&mut self) -> Result<Option<Melded>, Error> {
+        loop {
+            let over = self.log.is_empty();
+            match self.pool.feed(&mut self.carry, self.page, over)? {
+                Fed::Decided { melded, taken } => {
+                    self.page = self.page.get(taken..).unwrap_or_default();
+                    return Ok(Some(melded));
+                }
+                Fed::More => {
+                    let (page, log) = self.log.split_at_checked(PAGE).unwrap_or((self.log, &[]));
+                    (self.page, self.log) = (page, log);
+                }
+                Fed::End => return Ok(None),
+            }
+        }
+    }
+}
+
 /// Melds a log into a new pool in these bytes, and says a line for each record.
 fn meld_log(bytes: &mut [u8], limits: Limits, log: &[u8]) -> Result<(), Error> {
+    let mut second = [0; pool_bytes(MOST_N)];
+    let second = second.get_mut(..bytes.len()).unwrap_or_default();
+    let mut paged = Paged {
+        pool: Pool::create(second, limits)?,
+        carry: Carry::new(),
+        page: &[],
+        log,
+    };
     let mut pool = Pool::create(bytes, limits)?;
     let mut before = [0; pool_bytes(MOST_N)];
     let mut buffer = RecordBuffer::new();
     for part in Records::new(log) {
-        let part = part?;
+        let part = match part {
+            Ok(part) => part,
+            Err(broken) => {
+                let broken = broken.into();
+                if paged.next() != Err(broken) {
+                    say("DIFFERS\n");
+                }
+                return Err(broken);
+            }
+        };
         // A copy of the pool as it was, to be asked after the verdict is known.
         for (to, from) in before.iter_mut().zip(pool.as_bytes()) {
             *to = *from;
@@ -98,7 +148,9 @@ fn meld_log(bytes: &mut [u8], limits: Limits, log: &[u8]) -> Result<(), Error> {
         say_number(melded.looks);
         say("\n");
         let committed = melded.verdict == Verdict::Committed;
-        let right = there_and_back(part, &mut buffer)
+        let right = paged.next() == Ok(Some(melded))
+            && paged.pool.as_bytes() == pool.as_bytes()
+            && there_and_back(part, &mut buffer)
             && part.len() >= LEAST_RECORD
             && status.limits == limits
             && status.tombstones <= status.kept
@@ -108,6 +160,9 @@ fn meld_log(bytes: &mut [u8], limits: Limits, log: &[u8]) -> Result<(), Error> {
         if !right {
             say("DIFFERS\n");
         }
+    }
+    if paged.next() != Ok(None) {
+        say("DIFFERS\n");
     }
     Ok(())
 }

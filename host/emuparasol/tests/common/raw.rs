@@ -43,6 +43,43 @@ pub fn meld(pool: &mut Vec<u8>, record: &[u8]) -> (u8, u32) {
     (answer, looks.number())
 }
 
+/// What `feed` tells.
+#[derive(Clone, Copy, Debug, PartialEq, Eq)]
+pub struct Fed {
+    pub happened: u8,
+    pub answer: u8,
+    pub looks: u32,
+    pub taken: usize,
+    pub carried: u64,
+}
+
+/// `feed` with any bytes as carry and any number of them carried.
+pub fn feed(pool: &mut Vec<u8>, carry: &mut Vec<u8>, carried: u64, part: &[u8], over: bool) -> Fed {
+    let (mut lent, mut carrying, mut named) = (bytes(pool), bytes(carry), bytes(part));
+    let (mut count, mut happened) = (longs(&[carried]), bytes(&[82]));
+    let (mut looks, mut taken) = (words(&[83]), size());
+    let answer = calls::feed(
+        lent.lent(),
+        carrying.lent(),
+        &mut count.lent()[0],
+        named.lent(),
+        over,
+        &mut happened.lent()[0],
+        &mut looks.lent()[0],
+        &mut taken.lent()[0],
+    );
+    named.same(part);
+    *pool = lent.back();
+    *carry = carrying.back();
+    Fed {
+        happened: happened.number(),
+        answer,
+        looks: looks.number(),
+        taken: place(taken.number()),
+        carried: count.number(),
+    }
+}
+
 /// `refresh`: the answer.
 pub fn refresh(pool: &[u8], original: &[u8], output: &mut Vec<u8>) -> u8 {
     let (mut lent, mut named, mut filled) = (bytes(pool), bytes(original), bytes(output));
