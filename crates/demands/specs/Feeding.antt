@@ -20,19 +20,19 @@ use Rattle.demands.specs.Runs.{Card}
 
 -- WHAT CALLS TELL
 
--- the verdict that a call gives, with its looks: one where it decides a record, else none
+-- R47: the verdict that a call gives, with its looks: one where it decides a record, else none
 abbrev pub verdictIn : Happened → ℕ → List Melded
 verdictIn (Decided a) looks = record { answer = a; looks = looks } ∷ []
 verdictIn (Refused a) looks = []
 verdictIn More looks = []
 verdictIn End looks = []
 
--- the verdicts that calls give, in their order
+-- R49: the verdicts that calls give, in their order
 abbrev pub verdictsIn : List Fed → List Melded
 verdictsIn [] = []
 verdictsIn (r ∷ rs) = verdictIn (r .happened) (r .looks) ++ verdictsIn rs
 
--- what a call says of the log's ending: "end", or 10 for a broken log; most calls say nothing of it
+-- R49: what a call says of the log's ending: "end", or 10 for a broken log; most calls say nothing of it
 abbrev pub endingIn : Happened → Option Cut
 endingIn (Decided a) = none
 endingIn (Refused a) = if eqb (a .number) (brokenLog .number) then some Cuts.Broken else none
@@ -52,7 +52,7 @@ pub data Feeding (log m carry : List ℕ) : List Fed → ℕ → List ℕ → Li
       → Feeds m′ carry′ carried (take n (drop taken log)) over r m″ carry″
       → Feeding log m carry (rs ++ (r ∷ [])) (taken + r .taken) m″ carry″ (r .carried)
 
--- one call more on what such calls have left, lent and told as they are: what it gives back, and the pool and the carry then
+-- R49: one call more on what such calls have left, lent and told as they are: what it gives back, and the pool and the carry then
 pub record OneMore (log : List ℕ) (taken : ℕ) (m carry : List ℕ) (carried : ℕ) (r : Fed) (m′ carry′ : List ℕ) : Type 0 where
   pub n : ℕ
   pub over : Bool

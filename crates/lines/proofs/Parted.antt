@@ -153,8 +153,8 @@ module _ (log m carry m′ carry′ : List ℕ) (sized : length carry ≡ carryS
             λ N Z lent made. (
               p .calls,
               subst (λ (l : List ℕ). Whole N Z l (verdictsIn (p .calls)) Cuts.Broken m′) (append-nil log)
-              (parts-whole made sized
-              (part-breaks (subst (λ (x : Bool). PartCalls log m carry 0 (p .calls) m′ carry′ (r .carried) x) b (p .made)) (new-fit made) (such-none sized) [])),
+                  (parts-whole made sized
+                  (part-breaks (subst (λ (x : Bool). PartCalls log m carry 0 (p .calls) m′ carry′ (r .carried) x) b (p .made)) (new-fit made) (such-none sized) [])),
             );
       }
 
@@ -172,7 +172,7 @@ module _ (log m carry m′ carry′ : List ℕ) (sized : length carry ≡ carryS
             let (fit, such) = part-ready (p .made) (new-fit made) (such-none sized) in (
               p .calls ++ (f .call ∷ []),
               subst (λ (l : List ℕ). Whole N Z l (verdictsIn (p .calls ++ (f .call ∷ []))) found m″) (append-nil log)
-              (parts-whole made sized
-              (part-then (subst (λ (x : Bool). PartCalls log m carry 0 (p .calls) m′ carry′ (r .carried) x) b (p .made)) [] (f .call ∷ []) m″ found (finished fit such f))),
+                  (parts-whole made sized
+                  (part-then (subst (λ (x : Bool). PartCalls log m carry 0 (p .calls) m′ carry′ (r .carried) x) b (p .made)) [] (f .call ∷ []) m″ found (finished fit such f))),
             );
       }

@@ -11,11 +11,9 @@ use lib.ListN.{length, take, drop}
 use lib.Seq.{length-take-le, take-append-add, take-at}
 use Rattle.words.specs.Choice.{if_then_else_}
 use Rattle.record.specs.Answer.{unfitPool}
-use Rattle.record.specs.Parse.{parse}
 use Rattle.record.specs.Reader.{front}
 use Rattle.log.specs.Log.{pastAt}
-use Rattle.rules.specs.Verdict.{Verdict, committed, conflict, tooOld, noRoom, malformed, ahead, positionsUsedUp, verdict, verdictAnswer}
-use Rattle.pool.specs.Image.{Fit, stateOf}
+use Rattle.pool.specs.Image.{Fit}
 use Rattle.fit.specs.Whole.{Decides}
 use Rattle.meld.specs.declared.melding.Melded.{Melded}
 use Rattle.meld.specs.Melds.{MeldsFit, Melds}
@@ -25,20 +23,7 @@ use Rattle.pages.specs.declared.told.Fed.{Fed}
 use Rattle.pages.specs.Pages.{bytesIn, recordIn, refusing, isUnfit, fedBy, carryBy, RecordDecided}
 use Rattle.pages.specs.Steps.{decided}
 use Rattle.pages.proofs.Stored.{length-in}
-
--- meld answers 7 to no fit pool
-never-unfit : (v : Verdict) → eqb (verdictAnswer v .number) (unfitPool .number) ≡ false
-never-unfit committed = refl
-never-unfit conflict = refl
-never-unfit tooOld = refl
-never-unfit noRoom = refl
-never-unfit malformed = refl
-never-unfit ahead = refl
-never-unfit positionsUsedUp = refl
-
-pub not-unfit : (m bytes m′ : List ℕ) (a : Melded) → Fit m → MeldsFit m bytes m′ a → isUnfit a ≡ false
-not-unfit m bytes m′ a f h =
-    ap isUnfit (h (f .arrangement) (f .image) .verdict-is) ∙ never-unfit (verdict (stateOf (f .arrangement)) (parse bytes))
+use Rattle.pages.proofs.Decided.{fit-answers}
 
 module _ (carry : List ℕ) (carried : ℕ) (part : List ℕ) where
   abbrev bytes : List ℕ
@@ -69,7 +54,7 @@ module _ (carry : List ℕ) (carried : ℕ) (part : List ℕ) where
     decided-fit : (taken : ℕ) → taken ≡ size - carried → (melded carry′ : List ℕ) → melded ≡ take size bytes → MeldsFit m melded m′ a → r ≡ decided a taken
         → carry′ ≡ (if eqb carried 0 then carry else front (recordIn bytes) carry) → RecordDecided m carry carried bytes r m′ carry′
     decided-fit taken k melded carry′ e h q c =
-        let n : isUnfit a ≡ false = not-unfit m melded m′ a (now-fit m b d t) h in
+        let n : isUnfit a ≡ false = fit-answers (melds m melded b d t m′ a h) (now-fit m b d t) in
         let s : take size bytes ≡ recordIn bytes = ap (λ (j : ℕ). take j bytes) z in
         let w : taken ≡ pastAt bytes 0 - carried = omega arith in
         record {

@@ -7,7 +7,7 @@ use mathlib.Core.List.{List, [], _∷_, _++_}
 use native.Mathlib.Omega.{arith}
 use borrow.Author.Tests.{lt-ltb, le-ltb, eq-eqb, ne-eqb}
 use lib.Dec.{ltb, eqb}
-use lib.ListN.{length, getD, take, length-append, List·getD-append}
+use lib.ListN.{length, getD, take, List·getD-append}
 use lib.Seq.{length-take-le, getD-take, getD-append-add}
 use Rattle.words.specs.Choice.{if_then_else_}
 use Rattle.words.specs.Word.{word}
@@ -17,6 +17,7 @@ use Rattle.pages.specs.declared.carry.Begun.{Begun}
 use Rattle.pages.specs.declared.carry.Begun.the-variants.{Short, Impossible, Sized}
 use Rattle.pages.specs.Pages.{carrySize, impossible, mayCarry, bytesIn}
 use Rattle.pages.specs.Steps.{sizedBy, begunIn}
+use Rattle.pages.proofs.Stored.{length-in}
 
 -- A LENGTH
 
@@ -67,19 +68,15 @@ module _ (carry : List ℕ) (carried : ℕ) where
 -- HOW FAR A RECORD IS
 
 module _ (carry : List ℕ) (carried : ℕ) (part : List ℕ) where
-  -- as many bytes are in
-  pub length-in : carried ≤ length carry → length (bytesIn carry carried part) ≡ carried + length part
-  length-in h = length-append (take carried carry) part ∙ omega (arith, length-take-le carried carry h)
-
   pub length-not-in : carried ≤ length carry → carried < 2 → length part < 2 - carried → Short ≡ begunIn (bytesIn carry carried part)
   length-not-in h k l =
       sym (ap (λ (b : Bool). if b then Short else sizedBy (lengthAt (bytesIn carry carried part) 0))
-      (lt-ltb (length (bytesIn carry carried part)) 2 (omega (arith, length-in h))))
+      (lt-ltb (length (bytesIn carry carried part)) 2 (omega (arith, length-in carry carried part h))))
 
   length-all-in : carried ≤ length carry → 2 ≤ carried + length part → sizedBy (lengthAt (bytesIn carry carried part) 0) ≡ begunIn (bytesIn carry carried part)
   length-all-in h l =
       sym (ap (λ (b : Bool). if b then Short else sizedBy (lengthAt (bytesIn carry carried part) 0))
-      (le-ltb (length (bytesIn carry carried part)) 2 (omega (arith, length-in h))))
+      (le-ltb (length (bytesIn carry carried part)) 2 (omega (arith, length-in carry carried part h))))
 
   -- byte by byte: what was carried, then the part
   carried-byte : (i : ℕ) → i < carried → carried ≤ length carry → getD (bytesIn carry carried part) i 0 ≡ getD carry i 0

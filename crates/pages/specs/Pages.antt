@@ -51,7 +51,7 @@ recordIn bytes = take (pastAt bytes 0) bytes
 
 -- THE TABLE OF R47
 
--- its rows
+-- R47: its rows
 pub data FeedRow : Type 0 where
   wrongCarry : FeedRow
   stuck : FeedRow
@@ -61,7 +61,7 @@ pub data FeedRow : Type 0 where
   atEnd : FeedRow
   torn : FeedRow
 
--- the first of them that applies
+-- R47: the first of them that applies
 unfoldable pub feedRow : List ℕ → ℕ → List ℕ → Bool → FeedRow
 feedRow carry carried part over =
     if not (eqb (length carry) carrySize && mayCarry carry carried) then wrongCarry else
@@ -72,45 +72,45 @@ feedRow carry carried part over =
     if eqb (carried + length part) 0 then atEnd else
     torn
 
--- what is given back where no record was decided: no looks
+-- R47: what is given back where no record was decided: no looks
 abbrev pub undecided : Happened → ℕ → ℕ → Fed
 undecided what taken carried = record { happened = what; looks = 0; taken = taken; carried = carried }
 
--- a refusal that takes nothing
+-- R47: a refusal that takes nothing
 abbrev pub refusing : Answer → ℕ → Fed
 refusing a carried = undecided (Refused a) 0 carried
 
--- what is given back, and the pool and the carry afterwards
+-- R47: what is given back, and the pool and the carry afterwards
 pub record Leaves (x : Fed) (m carry : List ℕ) (r : Fed) (m′ carry′ : List ℕ) : Type 0 where
   pub said : r ≡ x
   pub pool : m′ ≡ m
   pub carry-is : carry′ ≡ carry
 
--- meld has answered 7
+-- R19: meld has answered 7
 abbrev pub isUnfit : Melded → Bool
 isUnfit a = eqb (a .answer .number) (unfitPool .number)
 
--- what is given back where the record's last byte is in, and meld has answered so
+-- R47: what is given back where the record's last byte is in, and meld has answered so
 abbrev pub fedBy : Melded → ℕ → List ℕ → Fed
 fedBy a carried bytes =
     if isUnfit a then refusing unfitPool carried else
     record { happened = Decided (a .answer); looks = a .looks; taken = pastAt bytes 0 - carried; carried = 0 }
 
--- the carry then: with 7 as it was, and with nothing carried before; else the record is at its front
+-- R47: the carry then: with 7 as it was, and with nothing carried before; else the record is at its front
 abbrev pub carryBy : Melded → List ℕ → ℕ → List ℕ → List ℕ
 carryBy a carry carried bytes =
     if isUnfit a then carry else
     if eqb carried 0 then carry else
     front (recordIn bytes) carry
 
--- the record's last byte is in: what meld answers to the record, and the pool that it leaves
+-- R47: the record's last byte is in: what meld answers to the record, and the pool that it leaves
 pub record RecordDecided (m carry : List ℕ) (carried : ℕ) (bytes : List ℕ) (r : Fed) (m′ carry′ : List ℕ) : Type 0 where
   pub melded : Melded
   pub melds : Melds m (recordIn bytes) m′ melded
   pub said : r ≡ fedBy melded carried bytes
   pub carry-is : carry′ ≡ carryBy melded carry carried bytes
 
--- what each row says
+-- R47: what each row says
 abbrev pub FeedsAs : FeedRow → List ℕ → List ℕ → ℕ → List ℕ → Fed → List ℕ → List ℕ → Type 0
 FeedsAs wrongCarry m carry carried part = Leaves (refusing outputShort carried) m carry
 FeedsAs stuck m carry carried part = Leaves (refusing brokenLog carried) m carry
