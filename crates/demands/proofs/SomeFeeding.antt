@@ -40,7 +40,7 @@ use Rattle.demands.proofs.Calls.{stays-fit}
 -- THE LAST CALL
 
 -- with nothing left to lend, and told so, a call says how the log ends
-over-ends : {m carry : List ℕ} {carried : ℕ} {r : Fed} {m′ carry′ : List ℕ} → Such carry carried → Feeds m carry carried [] true r m′ carry′
+pub over-ends : {m carry : List ℕ} {carried : ℕ} {r : Fed} {m′ carry′ : List ℕ} → Such carry carried → Feeds m carry carried [] true r m′ carry′
     → (last : Cut) × (endingIn (r .happened) ≡ some last)
 over-ends {m} {carry} {carried} {r} {m′} {carry′} s f = go (feedRow carry carried [] true) refl (f .as-said)
   where

@@ -7,21 +7,22 @@ use mathlib.Core.Bool.{Bool, true, false, true≢false}
 use mathlib.Core.Option.{Option, none, some}
 use mathlib.Core.List.{List, [], _∷_, _++_, append-assoc, append-nil}
 use native.Mathlib.Omega.{arith}
-use lib.ListN.{length, take, drop, drop-of-length-le}
+use lib.Dec.{eqb}
+use lib.ListN.{length, drop, drop-of-length-le}
 use lib.Seq.{drop-drop}
-use Rattle.record.specs.Answer.{committed}
+use Rattle.record.specs.Answer.{committed, brokenLog}
+use Rattle.record.proofs.Cases.{by-case, no-some}
 use Rattle.log.specs.declared.found.Cut.{Cut}
 use Rattle.log.specs.declared.found.Cut.the-variants as Cuts
-use Rattle.log.specs.Log.{pastAt}
 use Rattle.log.specs.Walk.{joined}
 use Rattle.pool.specs.Image.{Fit}
 use Rattle.create.specs.Fresh.{Created}
 use Rattle.pages.specs.declared.told.Happened.{Happened}
 use Rattle.pages.specs.declared.told.Happened.the-variants.{Decided, Refused, More, End}
 use Rattle.pages.specs.declared.told.Fed.{Fed}
-use Rattle.pages.specs.Pages.{carrySize, bytesIn, isUnfit, feedRow, FeedRow, wrongCarry, stuck, cannotGoOn, recordWhole, goesOn, atEnd, torn, FeedsAs, Feeds}
-use Rattle.pages.proofs.Rows.{row-facts, may-join, may-few, whole-tells, no-both}
-use Rattle.pages.proofs.Fronts.{Such, length-in, record-goes-on}
+use Rattle.pages.specs.Pages.{carrySize, feedRow, FeedRow, wrongCarry, stuck, cannotGoOn, recordWhole, goesOn, atEnd, torn, FeedsAs, Feeds}
+use Rattle.pages.proofs.Rows.{row-facts, may-join, may-few, no-both}
+use Rattle.pages.proofs.Fronts.{Such}
 use Rattle.pages.proofs.Decided.{happened-is, fit-answers, verdict-said}
 use Rattle.pages.proofs.Carries.{such-left}
 use Rattle.pages.proofs.Refusals.{feed-stays-fit}
@@ -30,6 +31,7 @@ use Rattle.demands.specs.Calls.{none-more}
 use Rattle.demands.specs.Feeding.{verdictsIn, endingIn, PartsFed, next-part, breaks-off, is-over}
 use Rattle.demands.proofs.Calls.{stays-fit}
 use Rattle.demands.proofs.Parts.{parts-whole}
+use Rattle.demands.proofs.SomeFeeding.{over-ends}
 use Rattle.lines.specs.declared.parts.Going.{Going}
 use Rattle.lines.specs.Parts.{goesOnBy, CallsOver, none-yet, one-more, PartCalls, all-taken, stops, PartFed, closedBy, Finishes, LogMelded}
 
@@ -42,11 +44,12 @@ goes-none (Refused a) t = absurd (true≢false (sym t))
 goes-none More t = refl
 goes-none End t = absurd (true≢false (sym t))
 
--- so many bytes are not a whole record where nothing was added to a carry that may be
-never-whole : {carry : List ℕ} {carried : ℕ} → Such carry carried → Rattle.pages.specs.Pages.cannotBe (take carried carry) ≡ false
-    → Rattle.pages.specs.Pages.wholeIn (bytesIn carry carried []) ≡ true → ⊥
-never-whole {carry} {carried} s f w =
-    omega (arith, whole-tells (bytesIn carry carried []) w .1, length-in s [], record-goes-on s [] f)
+-- what a call says of the ending, where it says something, is how the log is closed
+ending-closed : (h : Happened) (last : Cut) → endingIn h ≡ some last → endingIn h ≡ some (closedBy h)
+ending-closed (Decided a) last e = absurd (no-some e)
+ending-closed (Refused a) last e = by-case (eqb (a .number) (brokenLog .number)) (λ t. simp t) λ f. absurd (no-some (simp f at e))
+ending-closed More last e = absurd (no-some e)
+ending-closed End last e = refl
 
 module _ {m carry : List ℕ} {carried : ℕ} (fit : Fit m) (s : Such carry carried) where
   -- while the log is not over, a call behind which it does not go on says that it is broken
@@ -65,22 +68,6 @@ module _ {m carry : List ℕ} {carried : ℕ} (fit : Fit m) (s : Such carry carr
       go goesOn e l = went (l .said) refl
       go atEnd e l = absurd (true≢false (sym (row-facts atEnd carry carried part false e .4)))
       go torn e l = ap endingIn (happened-is (l .said))
-
-  -- once it is over, a call with no byte more says how it ends
-  over-ends : {r : Fed} {m′ carry′ : List ℕ} → Feeds m carry carried [] true r m′ carry′ → endingIn (r .happened) ≡ some (closedBy (r .happened))
-  over-ends {r} {m′} {carry′} f = go (feedRow carry carried [] true) refl (f .as-said)
-    where
-      says : {x : Fed} → r ≡ x → endingIn (x .happened) ≡ some (closedBy (x .happened)) → endingIn (r .happened) ≡ some (closedBy (r .happened))
-      says e q = subst (λ (h : Happened). endingIn h ≡ some (closedBy h)) (sym (happened-is e)) q
-
-      go : (row : FeedRow) → feedRow carry carried [] true ≡ row → FeedsAs row m carry carried [] r m′ carry′ → endingIn (r .happened) ≡ some (closedBy (r .happened))
-      go wrongCarry e l = no-both (may-join carry carried (s .sized) (s .may)) (row-facts wrongCarry carry carried [] true e)
-      go stuck e l = says (l .said) refl
-      go cannotGoOn e l = says (l .said) refl
-      go recordWhole e d = let w = row-facts recordWhole carry carried [] true e in absurd (never-whole s (w .1) (w .3))
-      go goesOn e l = absurd (true≢false (row-facts goesOn carry carried [] true e .4))
-      go atEnd e l = says (l .said) refl
-      go torn e l = says (l .said) refl
 
 -- CALLS OVER A PART
 
@@ -124,10 +111,10 @@ part-breaks (stops {m″ = m₁} {r = r} c f g) fit s parts =
     calls-then c parts (r ∷ []) m₁ Cuts.Broken (breaks-off f (stop-broken a b f g))
 
 -- the log is over
-pub finished : {m carry : List ℕ} {carried : ℕ} {m′ carry′ : List ℕ} {found : Cut} → Fit m → Such carry carried → (f : Finishes m carry carried m′ carry′ found)
+pub finished : {m carry : List ℕ} {carried : ℕ} {m′ carry′ : List ℕ} {found : Cut} → Such carry carried → (f : Finishes m carry carried m′ carry′ found)
     → PartsFed [] m carry carried (f .call ∷ []) m′ found
-finished {m} {carry} {carried} {m′} fit s f =
-    subst (λ (c : Cut). PartsFed [] m carry carried (f .call ∷ []) m′ c) (sym (f .found-is)) (is-over (f .feeds) (over-ends fit s (f .feeds)))
+finished {m} {carry} {carried} {m′} s f =
+    subst (λ (c : Cut). PartsFed [] m carry carried (f .call ∷ []) m′ c) (sym (f .found-is)) (is-over (f .feeds) (let (last, e) = over-ends s (f .feeds) in ending-closed (f .call .happened) last e))
 
 -- FROM A NEW POOL
 
@@ -169,10 +156,10 @@ module _ (log m carry m′ carry′ : List ℕ) (sized : length carry ≡ carryS
         fed = p;
         whole =
             λ N Z lent made.
-            let (fit, such) = part-ready (p .made) (new-fit made) (such-none sized) in (
+            let (_, such) = part-ready (p .made) (new-fit made) (such-none sized) in (
               p .calls ++ (f .call ∷ []),
               subst (λ (l : List ℕ). Whole N Z l (verdictsIn (p .calls ++ (f .call ∷ []))) found m″) (append-nil log)
                   (parts-whole made sized
-                  (part-then (subst (λ (x : Bool). PartCalls log m carry 0 (p .calls) m′ carry′ (r .carried) x) b (p .made)) [] (f .call ∷ []) m″ found (finished fit such f))),
+                  (part-then (subst (λ (x : Bool). PartCalls log m carry 0 (p .calls) m′ carry′ (r .carried) x) b (p .made)) [] (f .call ∷ []) m″ found (finished such f))),
             );
       }

@@ -90,11 +90,11 @@ module _ {m carry page : List ℕ} (fit : Fit m) (such : Such carry 0) where
       (calls, subst (λ (c : Cut). PartsFed pages m carry 0 calls m′ c) (ap foundIn e) (turns-broken ts s))
   closed ts (unread s f) found e = absurd (true≢false (ap isLog (sym e)))
   closed {pages = pages} {calls = calls} ts (over {m′ = m₁} {found = last} s f k) found e =
-      let (a, b) = turns-ready ts in
+      let (_, b) = turns-ready ts in
       let rs : List Fed = calls ++ (k .call ∷ []) in (
         rs,
         subst (λ (c : Cut). PartsFed pages m carry 0 rs m₁ c) (ap foundIn e)
-            (subst (λ (l : List (List ℕ)). PartsFed l m carry 0 rs m₁ last) (append-nil pages) (turns-then ts s [] (k .call ∷ []) m₁ last (finished a b k))),
+            (subst (λ (l : List (List ℕ)). PartsFed l m carry 0 rs m₁ last) (append-nil pages) (turns-then ts s [] (k .call ∷ []) m₁ last (finished b k))),
       )
 
 -- a run of the program over a log, from a new pool: a card that has melded the whole of what the reads brought, and ends so. The verdicts are
