@@ -53,10 +53,14 @@ recordIn bytes = take (pastAt bytes 0) bytes
 
 -- R47: its rows
 pub data FeedRow : Type 0 where
+  -- no call could leave this carry with so many bytes
   wrongCarry : FeedRow
+  -- a length that cannot be is carried, or is in with this part
   stuck : FeedRow
   cannotGoOn : FeedRow
+  -- the record's last byte is in
   recordWhole : FeedRow
+  -- it is not, and the log is not over; or is over, with nothing in, or within a record
   goesOn : FeedRow
   atEnd : FeedRow
   torn : FeedRow
