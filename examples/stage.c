@@ -41,13 +41,14 @@ uint64_t flash_read(uint64_t place, uint8_t *to, uint64_t room) {
 }
 
 uint64_t flash_page(uint64_t place, uint8_t to[CARD_PAGE], uint32_t *cuts) {
+    uint64_t into = place & (page_size - 1); /* a page's size is a power of two */
     void (*other)(void) = between;
-    if (other != NULL && place > 0 && place % page_size == 0) {
+    if (other != NULL && place > 0 && into == 0) {
         between = NULL;
         other();
     }
     *cuts = cuts_made;
-    return flash_read(place, to, page_size - place % page_size);
+    return flash_read(place, to, page_size - into);
 }
 
 bool flash_cut_off(uint64_t place) {

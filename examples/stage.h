@@ -12,7 +12,7 @@ void stage_clear(void);
 void stage_meanwhile(void (*other)(void));
 /* What another card does before the next page is read, which is not the log's first. */
 void stage_between_pages(void (*other)(void));
-/* How many bytes a page has from now on, at most CARD_PAGE; 256 at first. */
+/* How many bytes a page has from now on, a power of two, at most CARD_PAGE; 256 at first. */
 void stage_page_size(uint64_t bytes);
 /* The next append takes so many bytes and fails. */
 void stage_fail_after(uint64_t bytes);
