@@ -34,13 +34,13 @@ pub struct Fed {
 }
 
 /// The length in the first two bytes, if they are there.
-fn length_in(bytes: &[u8]) -> Option<usize> {
+pub(crate) fn length_in(bytes: &[u8]) -> Option<usize> {
     let two = bytes.first_chunk::<LENGTH_BYTES>()?;
     Some(usize::from(u16::from_be_bytes(*two)))
 }
 
 /// Is it from 7 to 903?
-fn can_be(length: usize) -> bool {
+pub(crate) fn can_be(length: usize) -> bool {
     (LEAST_LENGTH..=MOST_LENGTH).contains(&length)
 }
 

@@ -1,8 +1,8 @@
 //! The program of R41, and R46's for larger N: limits and a log in, a line a record out.
 
 use crate::answer::Answer;
+use crate::feed::{can_be, length_in};
 use crate::log::{LogReader, Step};
-use crate::record::{LEAST_LENGTH, MOST_LENGTH};
 use crate::state::{Limits, State, Verdict};
 
 /// The largest N that the program of R41 takes.
@@ -74,18 +74,10 @@ pub fn run_up_to(most: u32, input: &[u8]) -> Result<Run, Answer> {
                     state,
                     verdicts,
                     ended: false,
-                    impossible: says_impossible(rest),
+                    impossible: length_in(rest).is_some_and(|length| !can_be(length)),
                 });
             }
         }
-    }
-}
-
-/// Do these bytes begin with a length that cannot be?
-fn says_impossible(bytes: &[u8]) -> bool {
-    match bytes.first_chunk::<2>() {
-        None => false,
-        Some(two) => !(LEAST_LENGTH..=MOST_LENGTH).contains(&usize::from(u16::from_be_bytes(*two))),
     }
 }
 
