@@ -3,9 +3,8 @@
 
 mod common;
 
-use common::{bytes, fresh, longs, means, raw, size, words, Guarded};
+use common::{fresh, means, raw};
 use compare::calls::Call;
-use emuparasol::calls;
 use reference::feed::CARRY_BYTES;
 use reference::table::record;
 use reference::{feed, Answer, Fed, Limits, Point, Said, State};
@@ -13,29 +12,17 @@ use reference::{feed, Answer, Fed, Limits, Point, Said, State};
 /// What a call says, and the carry and the pool that it leaves.
 type Told = (Fed, Vec<u8>, Vec<u8>);
 
-/// The call as C makes it, everything between guards.
+/// The call as C makes it.
 fn call(pool: &[u8], carry: &[u8], carried: usize, part: &[u8], over: bool) -> Told {
-    let (mut pool, mut carry, mut lent) = (bytes(pool), bytes(carry), bytes(part));
-    let (mut count, mut taken) = (longs(&[carried as u64]), size());
-    let (mut happened, mut looks) = (Guarded::new(&[99], 0x5A), words(&[79]));
-    let answer = calls::feed(
-        pool.lent(),
-        carry.lent(),
-        &mut count.lent()[0],
-        lent.lent(),
-        over,
-        &mut happened.lent()[0],
-        &mut looks.lent()[0],
-        &mut taken.lent()[0],
-    );
-    lent.same(part);
+    let (mut pool, mut carry) = (pool.to_vec(), carry.to_vec());
+    let told = raw::feed(&mut pool, &mut carry, carried as u64, part, over);
     let fed = Fed {
-        said: said(happened.number(), answer),
-        looks: looks.number(),
-        taken: taken.number() as usize,
-        carried: count.number() as usize,
+        said: said(told.happened, told.answer),
+        looks: told.looks,
+        taken: told.taken,
+        carried: told.carried as usize,
     };
-    (fed, carry.back(), pool.back())
+    (fed, carry, pool)
 }
 
 /// What is said, from the number of what happened and the answer.
