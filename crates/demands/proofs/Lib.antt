@@ -21,3 +21,4 @@ pub mod FedOn
 pub mod Feeding
 pub mod Parts
 pub mod SomeFeeding
+pub mod Reasons
