@@ -150,6 +150,15 @@ static uint64_t prepare(const char *call, uint32_t points, uint8_t *record) {
     return record_of(record, none ? 0 : half ? p / 2 : p, some, points, reads ? EMUPARASOL_KIND_READ : EMUPARASOL_KIND_PUT, &n, &n, 0);
 }
 
+/* The call whose record is explained, or NULL where none is. */
+static const char *behind_why(const char *call) {
+    const char *why = "why-";
+    for (; *why != '\0'; why++, call++)
+        if (*call != *why)
+            return NULL;
+    return call;
+}
+
 /* What explain tells besides the looks. */
 static struct {
     uint64_t point, scan;
@@ -217,14 +226,15 @@ int main(int argc, char **argv) {
         return MISUSED;
     fclose(f);
     uint8_t record[EMUPARASOL_MOST_RECORD];
-    enum call which = !strcmp(call, "look")       ? LOOK
-                      : !strcmp(call, "status")   ? STATUS
-                      : !strcmp(call, "fed")      ? FED
-                      : !strcmp(call, "begun")    ? BEGUN
-                      : !strcmp(call, "more")     ? MORE
-                      : !strncmp(call, "why-", 4) ? EXPLAIN
-                                                  : MELD;
-    uint64_t size = which == LOOK || which == STATUS ? 0 : prepare(which == EXPLAIN ? call + 4 : call, third, record);
+    const char *melded = behind_why(call);
+    enum call which = !strcmp(call, "look")     ? LOOK
+                      : !strcmp(call, "status") ? STATUS
+                      : !strcmp(call, "fed")    ? FED
+                      : !strcmp(call, "begun")  ? BEGUN
+                      : !strcmp(call, "more")   ? MORE
+                      : melded != NULL          ? EXPLAIN
+                                                : MELD;
+    uint64_t size = which == LOOK || which == STATUS ? 0 : prepare(which == EXPLAIN ? melded : call, third, record);
     uint32_t looks = 0;
     uint8_t answer = EMUPARASOL_COMMITTED;
     if (which >= FED)
