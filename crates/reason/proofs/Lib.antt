@@ -1,2 +1,5 @@
+mod Touching
+mod Explaining
+mod Whole
 pub mod Apart
 pub mod Only
