@@ -6,10 +6,11 @@ use super::reason::ReasonMistake;
 use super::record::{fields, Fields};
 use super::Mistake;
 
-/// A put or delete of a record that was melded.
-struct Write {
+/// A point of a record that was melded.
+struct Melded {
     position: u32,
     key: u32,
+    writes: bool,
     committed: bool,
 }
 
@@ -43,11 +44,11 @@ impl Told {
     }
 }
 
-/// An explainer: a pool, and for some mistakes every write of the log.
+/// An explainer: a pool, and for some mistakes every point of the log.
 pub(super) struct Explainer {
     mistake: Option<ReasonMistake>,
     pool: Pool,
-    writes: Vec<Write>,
+    points: Vec<Melded>,
 }
 
 impl Explainer {
@@ -58,7 +59,7 @@ impl Explainer {
         Explainer {
             mistake,
             pool: Pool::new(n, z, looks),
-            writes: Vec::new(),
+            points: Vec::new(),
         }
     }
 
@@ -71,13 +72,13 @@ impl Explainer {
         let (answer, _, position) = self.pool.meld(part);
         let record = fields(None, part, position - 1);
         let points = record.map_or(Vec::new(), |record| record.points);
-        for (_, key, _) in points.into_iter().filter(|point| point.0 != 1) {
-            self.writes.push(Write {
+        self.points
+            .extend(points.iter().map(|&(kind, key, _)| Melded {
                 position,
                 key,
+                writes: kind != 1,
                 committed: answer == 0,
-            });
-        }
+            }));
     }
 
     /// What is told of a record.
@@ -130,17 +131,19 @@ impl Explainer {
         };
         let newest = |entries: &[&Entry]| entries.iter().map(|entry| entry.position).max();
         let all: Vec<&Entry> = self.pool.entries.iter().collect();
-        let mut writes = self.writes.iter().filter(|write| write.key == blamed.key);
-        let since = |write: &&Write| write.committed && write.position > s;
+        let mut points = self.points.iter().filter(|point| point.key == blamed.key);
+        let since = |point: &&Melded| point.writes && point.committed && point.position > s;
+        let position = |point: &Melded| point.position;
         let other = match self.mistake {
             Some(ReasonMistake::OwnPosition) => Some(p + 1),
             Some(ReasonMistake::LastPosition) => Some(p),
             Some(ReasonMistake::SnapshotTold) => Some(s),
             Some(ReasonMistake::FirstWrite) => Some(blamed.born),
-            Some(ReasonMistake::FirstWriteSince) => writes.find(since).map(|write| write.position),
+            Some(ReasonMistake::FirstWriteSince) => points.find(since).map(position),
             Some(ReasonMistake::NewestInConflict) => newest(&found),
             Some(ReasonMistake::NewestOfAll) => newest(&all),
-            Some(ReasonMistake::RefusedWriter) => writes.last().map(|write| write.position),
+            Some(ReasonMistake::RefusedWriter) => points.rfind(|point| point.writes).map(position),
+            Some(ReasonMistake::ReadWriter) => points.rfind(|point| point.committed).map(position),
             _ => None,
         };
         told.key = blamed.key;
@@ -179,6 +182,7 @@ impl Explainer {
             Some(ReasonMistake::OldestKey) => entries.min_by_key(|entry| entry.position),
             Some(ReasonMistake::SignedKey) => entries.min_by_key(|entry| entry.key as i32),
             Some(ReasonMistake::LiveKey) => entries.find(|entry| entry.live),
+            Some(ReasonMistake::KeyZeroIsNone) => entries.find(|entry| entry.key != 0),
             _ => None,
         };
         other.or(found.first().copied())
