@@ -134,7 +134,9 @@ explain-tells m bytes t h = rw (h .told)
     record {
       unfit = λ u. ap Numbers.ofExplained (h .explains .unfit u);
       as-melded = λ A i. h .explains .fit A i .as-melded;
-      no-record = λ A i none-is. ap Numbers.reasonNumbers (subst (λ (o : Option Rec). TrueReason (stateOf A) o (h .said .reason)) none-is (h .explains .fit A i .true-reason));
-      reason-is = λ A i r some-is. reason-tells (stateOf A) r (h .said .reason) (verdict (stateOf A) (some r))
-          (subst (λ (o : Option Rec). TrueReason (stateOf A) o (h .said .reason)) some-is (h .explains .fit A i .true-reason));
+      no-record = λ A i is. ap Numbers.reasonNumbers (true-of A i none is);
+      reason-is = λ A i r is. reason-tells (stateOf A) r (h .said .reason) (verdict (stateOf A) (some r)) (true-of A i (some r) is);
     }
+  where
+    true-of : (A : Arrangement) → Image m A → (o : Option Rec) → parse bytes ≡ o → TrueReason (stateOf A) o (h .said .reason)
+    true-of A i o is = subst (λ (x : Option Rec). TrueReason (stateOf A) x (h .said .reason)) is (h .explains .fit A i .true-reason)
