@@ -1,2 +1,5 @@
 pub mod Apart
 pub mod Only
+mod Touching
+mod Explaining
+mod Whole
