@@ -1,3 +1,4 @@
+pub mod Above
 pub mod Apart
 pub mod Only
 mod Touching
