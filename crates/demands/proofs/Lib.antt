@@ -22,3 +22,4 @@ pub mod Feeding
 pub mod Parts
 pub mod SomeFeeding
 pub mod Reasons
+pub mod Writers

@@ -4,29 +4,27 @@
 use Prim.Native.Nat.{ℕ, suc, _+_, _≤_}
 use native.Mathlib.Omega.{arith}
 use mathlib.Core.Path.{_≡_, refl, sym, ap, _∙_, subst}
-use mathlib.Core.List.{List, [], _∷_, List·Memᴰ as Mem, List·Memᴰ·head as here, List·Memᴰ·tail as there}
+use mathlib.Core.List.{List, _∷_, List·Memᴰ as Mem, List·Memᴰ·head as here, List·Memᴰ·tail as there}
 use mathlib.Core.Option.{Option, none, some}
 use Rattle.words.specs.Word.{Bytes}
-use Rattle.record.specs.declared.answer.Answer.{Answer}
 use Rattle.record.specs.declared.point.Point.{Point}
 use Rattle.record.specs.declared.point.Scan.{Scan}
 use Rattle.record.specs.Record.{Rec, Valid, PointsRise, Apart, keyOf}
-use Rattle.record.specs.Parse.{parse}
 use Rattle.record.proofs.RoundTrip.{bytesOf-parse}
 use Rattle.rules.specs.State.{Entry, State, Lawful}
 use Rattle.rules.specs.Verdict.{Verdict, committed, conflict, tooOld, noRoom, malformed, ahead, positionsUsedUp, verdict}
 use Rattle.rules.specs.Log.{ValidIf}
 use Rattle.rules.proofs.Finding.{find-mem}
-use Rattle.pool.specs.Image.{Fit, stateOf}
+use Rattle.pool.specs.Image.{Fit}
 use Rattle.fit.proofs.Decided.{fit-or-not}
 use Rattle.meld.specs.declared.melding.Melded.{Melded}
 use Rattle.reason.specs.declared.told.Touch.{Touch}
 use Rattle.reason.specs.declared.told.Touch.the-variants as Touches
 use Rattle.reason.specs.declared.told.Reason.{Reason}
-use Rattle.reason.specs.declared.told.Reason.the-variants.{Conflict}
 use Rattle.reason.specs.declared.told.Explained.{Explained}
 use Rattle.reason.specs.Reason.{reasonTold, Smallest, IsNumber, first, later, TouchedBy, by-point, by-scan, Blames, ReasonFor, TrueReason, ExplainsAs, Explains}
 use Rattle.reason.proofs.Apart.{reason-told-apart}
+use Rattle.reason.proofs.Above.{above, beyond-low}
 
 -- WHAT TOUCHES A KEY
 
@@ -35,29 +33,19 @@ pub number-mem : {A : Type 0} {x : A} {i : ℕ} {xs : List A} → IsNumber x i x
 number-mem first = here refl
 number-mem (later n) = there (number-mem n)
 
--- the points from low on have keys from low on
-points-from : (low : ℕ) (ps : List Point) → PointsRise low ps → {q : Point} → Mem q ps → low ≤ keyOf q
-points-from low (p ∷ ps) r (here e) = omega (arith, r .0, ap keyOf e)
-points-from low (p ∷ ps) r (there m) = omega (arith, r .0, points-from (keyOf p + 1) ps (r .3) m)
-
--- and the scans from low on have lows from low on
-scans-from : (low : ℕ) (cs : List Scan) → Apart low cs → {c : Scan} → Mem c cs → low ≤ c .low
-scans-from low (d ∷ cs) a (here e) = omega (arith, a .0, ap (λ (x : Scan). x .low) e)
-scans-from low (d ∷ cs) a (there m) = omega (arith, a .0, a .1, scans-from (d .high + 1) cs (a .3) m)
-
 -- one point at most has a key
 one-point : (low : ℕ) (ps : List Point) → PointsRise low ps → {p q : Point} {i j : ℕ} → IsNumber p i ps → IsNumber q j ps → keyOf p ≡ keyOf q → i ≡ j
 one-point low (p ∷ ps) r first first e = refl
-one-point low (p ∷ ps) r first (later n) e = absurd (omega (arith, e, points-from (keyOf p + 1) ps (r .3) (number-mem n)))
-one-point low (p ∷ ps) r (later n) first e = absurd (omega (arith, e, points-from (keyOf p + 1) ps (r .3) (number-mem n)))
+one-point low (p ∷ ps) r {q = q} first (later n) e = absurd (omega (arith, e, above (keyOf p + 1) ps (r .3) q (number-mem n)))
+one-point low (q ∷ ps) r {p = p} (later n) first e = absurd (omega (arith, e, above (keyOf q + 1) ps (r .3) p (number-mem n)))
 one-point low (p ∷ ps) r (later m) (later n) e = ap suc (one-point (keyOf p + 1) ps (r .3) m n e)
 
 -- one scan at most covers a key
 one-scan : (low k : ℕ) (cs : List Scan) → Apart low cs → {c d : Scan} {i j : ℕ} → IsNumber c i cs → IsNumber d j cs
     → c .low ≤ k → k ≤ c .high → d .low ≤ k → k ≤ d .high → i ≡ j
 one-scan low k (c ∷ cs) a first first l h l′ h′ = refl
-one-scan low k (c ∷ cs) a first (later n) l h l′ h′ = absurd (omega (arith, h, l′, scans-from (c .high + 1) cs (a .3) (number-mem n)))
-one-scan low k (c ∷ cs) a (later n) first l h l′ h′ = absurd (omega (arith, l, h′, scans-from (c .high + 1) cs (a .3) (number-mem n)))
+one-scan low k (c ∷ cs) a {d = d} first (later n) l h l′ h′ = absurd (omega (arith, h, l′, beyond-low (c .high + 1) cs (a .3) d (number-mem n)))
+one-scan low k (d ∷ cs) a {c = c} (later n) first l h l′ h′ = absurd (omega (arith, l, h′, beyond-low (d .high + 1) cs (a .3) c (number-mem n)))
 one-scan low k (c ∷ cs) a (later m) (later n) l h l′ h′ = ap suc (one-scan (c .high + 1) k cs (a .3) m n l h l′ h′)
 
 -- so a key is touched by one thing
@@ -87,7 +75,7 @@ module _ {S : State} (l : Lawful S) (x y : Reason) where
   blamed-once {r} v a b =
       let e : a .e ≡ b .e = smallest-once l (a .smallest) (b .smallest) in
       let t : a .touch ≡ b .touch = touched-once v (a .touched) (subst (λ (z : Entry). TouchedBy r (z .key) (b .touch)) (sym e) (b .touched)) in
-      a .tells ∙ (λ i. reasonTold (Conflict (e i .key) (e i .position) (t i))) ∙ sym (b .tells)
+      (rw (e, t) at (a .tells)) ∙ sym (b .tells)
 
   -- of each verdict
   verdict-once : {r : Rec} → Valid r → (v : Verdict) → ReasonFor S r x v → ReasonFor S r y v → reasonTold x ≡ reasonTold y
