@@ -105,15 +105,15 @@ pub record FitsWhole (S : State) (r : Rec) : Type 0 where
   pub tested : ltb (S .N) (count S (r .points)) ≡ false
 
 -- what the rules say of room, by the two tests
-abbrev said : Bool → Bool → RoomSaid
-said over d = if over then record { number = some Names.noRoom; drops-first = false } else record { number = none; drops-first = d }
+abbrev said : ℕ → Bool → Bool → RoomSaid
+said n over d = if over then record { number = some Names.noRoom; drops-first = false; keys = some n } else record { number = none; drops-first = d; keys = none }
 
 module _ (S : State) (r : Rec) where
-  pub too-little : saidBy TooLittle ≡ roomIn S (r .points) → TooMany S (r .points)
+  pub too-little : (n : ℕ) → saidBy (TooLittle n) ≡ roomIn S (r .points) → TooMany S (r .points)
   unfolding roomIn
-  too-little e = go (ltb (S .N) (count S (r .points))) refl e
+  too-little n e = go (ltb (S .N) (count S (r .points))) refl e
     where
-      go : (b : Bool) → ltb (S .N) (count S (r .points)) ≡ b → saidBy TooLittle ≡ said b (drops S (r .points)) → TooMany S (r .points)
+      go : (b : Bool) → ltb (S .N) (count S (r .points)) ≡ b → saidBy (TooLittle n) ≡ said (count S (r .points)) b (drops S (r .points)) → TooMany S (r .points)
       go true q h = record { over = q }
       go false q h = let d : _≡_ {A = Option Answer} (some Names.noRoom) none = ap (λ (x : RoomSaid). x .number) h in let z : _≡_ {A = ℕ} 0 1 = cc in absurd (omega arith)
 
@@ -121,7 +121,7 @@ module _ (S : State) (r : Rec) where
   unfolding roomIn
   after-drop e = go (ltb (S .N) (count S (r .points))) refl e
     where
-      go : (b : Bool) → ltb (S .N) (count S (r .points)) ≡ b → saidBy AfterDrop ≡ said b (drops S (r .points)) → FitsLean S (r .points)
+      go : (b : Bool) → ltb (S .N) (count S (r .points)) ≡ b → saidBy AfterDrop ≡ said (count S (r .points)) b (drops S (r .points)) → FitsLean S (r .points)
       go true q h = let d : _≡_ {A = Option Answer} none (some Names.noRoom) = ap (λ (x : RoomSaid). x .number) h in let z : _≡_ {A = ℕ} 0 1 = cc in absurd (omega arith)
       go false q h = record { over = sym (ap (λ (x : RoomSaid). x .drops-first) h); fits = ltb-false (S .N) (count S (r .points)) q; tested = q }
 
@@ -129,7 +129,7 @@ module _ (S : State) (r : Rec) where
   unfolding roomIn
   enough l v e = go (ltb (S .N) (count S (r .points))) refl e
     where
-      go : (b : Bool) → ltb (S .N) (count S (r .points)) ≡ b → saidBy Enough ≡ said b (drops S (r .points)) → FitsWhole S r
+      go : (b : Bool) → ltb (S .N) (count S (r .points)) ≡ b → saidBy Enough ≡ said (count S (r .points)) b (drops S (r .points)) → FitsWhole S r
       go true q h = let d : _≡_ {A = Option Answer} none (some Names.noRoom) = ap (λ (x : RoomSaid). x .number) h in let z : _≡_ {A = ℕ} 0 1 = cc in absurd (omega arith)
       go false q h =
           let d : drops S (r .points) ≡ false = sym (ap (λ (x : RoomSaid). x .drops-first) h) in

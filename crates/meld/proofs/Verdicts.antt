@@ -118,11 +118,11 @@ module _ (m : List ℕ) (s : ℕ) (kinds ks xs ls hs : List ℕ) (pre : Meldable
         room-is : (A : Arrangement) → Image m A → (r : Rec) → NamesOf s kinds ks xs ls hs r → (b : Room) → a ≡ b → saidBy b ≡ roomIn (stateOf A) (r .points)
         room-is A i r n b e = ap saidBy (sym e) ∙ ea A i r (n .valid) (n .kinds-are) (n .keys-are)
 
-        pub no-room : (m′ : List ℕ) → a ≡ TooLittle → ((A : Arrangement) → Image m A → Image m′ (movedOn A)) → MeldsLists m s kinds ks xs ls hs m′ (record { answer = Names.noRoom; looks = j .looks })
+        pub no-room : (m′ : List ℕ) (k : ℕ) → a ≡ TooLittle k → ((A : Arrangement) → Image m A → Image m′ (movedOn A)) → MeldsLists m s kinds ks xs ls hs m′ (record { answer = Names.noRoom; looks = j .looks })
         unfolding afterIn
-        no-room m′ e moved A i r n =
+        no-room m′ k e moved A i r n =
             let x = open-way A i r n in
-            let t = too-little (stateOf A) r (room-is A i r n TooLittle e) in
+            let t = too-little (stateOf A) r k (room-is A i r n (TooLittle k) e) in
             let v : verdict (stateOf A) (some r) ≡ noRoom = x .is ∙ rw (t .over) in
             record { verdict-is = rw (x .looks-is, v); leaves = rw v (moved A i) }
 

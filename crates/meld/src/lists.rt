@@ -31,7 +31,7 @@ pub fn meld_lists(
         return Melded { answer, looks };
     }
     match room_for(pool, kinds, keys) {
-        Room::TooLittle => {
+        Room::TooLittle { keys: _ } => {
             advance(pool);
             Melded {
                 answer: Answer::NO_ROOM,

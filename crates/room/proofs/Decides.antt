@@ -135,8 +135,10 @@ module _ (m kinds ks : List ℕ) (fit : Fit m) (w : Writable m kinds ks) (h : He
           let x : count (stateOf A) (r .points) ≤ A .N = omega (arith, count-counted A i r v ek ee, eo A i .counted, words A i .limit-is) in
           rw (le-ltb (A .N) (count (stateOf A) (r .points)) x, passes A i r v ek ee)
 
-      pub too-little : o < h .kept + t .absent + t .revived - h .limit → RoomIs m kinds ks TooLittle
+      -- where there is no room every old tombstone was counted
+      pub too-little : o < h .kept + t .absent + t .revived - h .limit → RoomIs m kinds ks (TooLittle (h .kept + t .absent + t .revived - o))
       unfolding roomIn
       too-little l A i r v ek ee =
           let x : A .N < count (stateOf A) (r .points) = omega (arith, count-counted A i r v ek ee, eo A i .all l, words A i .limit-is) in
-          rw (lt-ltb (A .N) (count (stateOf A) (r .points)) x)
+          let c : h .kept + t .absent + t .revived - o ≡ count (stateOf A) (r .points) = omega (arith, count-counted A i r v ek ee, eo A i .all l) in
+          rw (lt-ltb (A .N) (count (stateOf A) (r .points)) x, c)

@@ -17,13 +17,13 @@ use Rattle.room.specs.Room.{RoomSaid, saidBy, Writable, RoomIs}
 pub same-said : (a b : Room) → saidBy a ≡ saidBy b → a ≡ b
 same-said Enough Enough e = refl
 same-said Enough AfterDrop e = let d : _≡_ {A = Bool} false true = ap (λ (x : RoomSaid). x .drops-first) e in let z : _≡_ {A = ℕ} 0 1 = cc in absurd (omega arith)
-same-said Enough TooLittle e = let d : _≡_ {A = Option Answer} none (some noRoom) = ap (λ (x : RoomSaid). x .number) e in let z : _≡_ {A = ℕ} 0 1 = cc in absurd (omega arith)
+same-said Enough (TooLittle n) e = let d : _≡_ {A = Option Answer} none (some noRoom) = ap (λ (x : RoomSaid). x .number) e in let z : _≡_ {A = ℕ} 0 1 = cc in absurd (omega arith)
 same-said AfterDrop Enough e = let d : _≡_ {A = Bool} true false = ap (λ (x : RoomSaid). x .drops-first) e in let z : _≡_ {A = ℕ} 0 1 = cc in absurd (omega arith)
 same-said AfterDrop AfterDrop e = refl
-same-said AfterDrop TooLittle e = let d : _≡_ {A = Option Answer} none (some noRoom) = ap (λ (x : RoomSaid). x .number) e in let z : _≡_ {A = ℕ} 0 1 = cc in absurd (omega arith)
-same-said TooLittle Enough e = let d : _≡_ {A = Option Answer} (some noRoom) none = ap (λ (x : RoomSaid). x .number) e in let z : _≡_ {A = ℕ} 0 1 = cc in absurd (omega arith)
-same-said TooLittle AfterDrop e = let d : _≡_ {A = Option Answer} (some noRoom) none = ap (λ (x : RoomSaid). x .number) e in let z : _≡_ {A = ℕ} 0 1 = cc in absurd (omega arith)
-same-said TooLittle TooLittle e = refl
+same-said AfterDrop (TooLittle n) e = let d : _≡_ {A = Option Answer} none (some noRoom) = ap (λ (x : RoomSaid). x .number) e in let z : _≡_ {A = ℕ} 0 1 = cc in absurd (omega arith)
+same-said (TooLittle n) Enough e = let d : _≡_ {A = Option Answer} (some noRoom) none = ap (λ (x : RoomSaid). x .number) e in let z : _≡_ {A = ℕ} 0 1 = cc in absurd (omega arith)
+same-said (TooLittle n) AfterDrop e = let d : _≡_ {A = Option Answer} (some noRoom) none = ap (λ (x : RoomSaid). x .number) e in let z : _≡_ {A = ℕ} 0 1 = cc in absurd (omega arith)
+same-said (TooLittle n) (TooLittle k) e = let d : _≡_ {A = Option ℕ} (some n) (some k) = ap (λ (x : RoomSaid). x .keys) e in let z : n ≡ k = cc in ap TooLittle z
 
 -- no second answer of `room_for`, for a fit pool and the lists of a record
 pub only-room : (m kinds keys : List ℕ) (a b : Room) → Fit m → Writable m kinds keys → RoomIs m kinds keys a → RoomIs m kinds keys b → a ≡ b

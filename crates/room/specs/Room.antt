@@ -18,22 +18,23 @@ use Rattle.nodes.specs.Nodes.{headerAt}
 use Rattle.room.specs.declared.room.Room.{Room}
 use Rattle.room.specs.declared.room.Room.the-variants.{Enough, AfterDrop, TooLittle}
 
--- what an answer says: its number, where it has one (R3), and whether the old tombstones are dropped first
+-- what an answer says: its number, where it has one (R3), whether the old tombstones are dropped first, and how many keys find no room
 pub record RoomSaid : Type 0 where
   pub number : Option Answer
   pub drops-first : Bool
+  pub keys : Option ℕ
 
--- what each of the three says: only "too little" has a number, 3
+-- what each of the three says: only "too little" has a number, 3, and the keys
 abbrev pub saidBy : Room → RoomSaid
-saidBy Enough = record { number = none; drops-first = false }
-saidBy AfterDrop = record { number = none; drops-first = true }
-saidBy TooLittle = record { number = some noRoom; drops-first = false }
+saidBy Enough = record { number = none; drops-first = false; keys = none }
+saidBy AfterDrop = record { number = none; drops-first = true; keys = none }
+saidBy (TooLittle n) = record { number = some noRoom; drops-first = false; keys = some n }
 
--- what the rules say of a record's points: no room by R26, or else the drop by R27
+-- what the rules say of a record's points: no room by R26, with its count, or else the drop by R27
 unfoldable pub roomIn : State → List Point → RoomSaid
 roomIn S ps =
-    if ltb (S .N) (count S ps) then record { number = some noRoom; drops-first = false } else
-    record { number = none; drops-first = drops S ps }
+    if ltb (S .N) (count S ps) then record { number = some noRoom; drops-first = false; keys = some (count S ps) } else
+    record { number = none; drops-first = drops S ps; keys = none }
 
 -- the last position whose tombstones are old at p + 1
 abbrev pub oldLimit : ℕ → ℕ → ℕ

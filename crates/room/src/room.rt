@@ -12,8 +12,8 @@ pub enum Room {
     Enough,
     // They are more, but without the old tombstones they are at most N.
     AfterDrop,
-    // They are more even so.
-    TooLittle,
+    // They are more even so: how many keys would have to find room.
+    TooLittle { keys: u32 },
 }
 
 // The last position whose tombstones are old for the next record: v - Z, or 0 where none can be old.
@@ -25,7 +25,8 @@ pub fn old_limit(position: u32, zone: u32) -> u32
     if zone <= v { v - zone } else { 0 }
 }
 
-// What there is room for in a fit pool. Old tombstones are counted only if the kept and the written keys pass N, and only up to as many as must go.
+// What there is room for in a fit pool. Old tombstones are counted only if the kept and the written keys pass N, and only up to as many as must go:
+// where there is no room there are fewer, and all of them are counted.
 pub fn room_for(pool: &[u8], kinds: &[u8], keys: &[u32]) -> Room
     requires { ⌜ Fit (now pool) ⌝ }
     requires { ⌜ Writable (now pool) (now kinds) (now keys) ⌝ }
@@ -38,9 +39,11 @@ pub fn room_for(pool: &[u8], kinds: &[u8], keys: &[u32]) -> Room
     if all <= h.limit {
         return Room::Enough;
     }
-    let needed = all + written.revived - h.limit;
-    if needed <= count_old(pool, limit, needed) {
+    let more = all + written.revived;
+    let needed = more - h.limit;
+    let old = count_old(pool, limit, needed);
+    if needed <= old {
         return Room::AfterDrop;
     }
-    Room::TooLittle
+    Room::TooLittle { keys: more - old }
 }

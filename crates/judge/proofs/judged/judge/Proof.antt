@@ -1,28 +1,14 @@
--- `judge::judge` meets its promise: one law for each return (Cases.antt).
-use Rattle.judge.proofs.Cases.{is-ahead, is-too-old, is-conflict, is-free}
+-- `judge::judge` meets its promise: it is `judge_and_name` without the leaf.
+use Rattle.judge.proofs.Cases.{without-leaf}
 use borrow.Author.Needs.{needs}
 use Rattle.judge.proofs.judged.judge.Statement.{statement}
 use Rattle.judge.proofs.judged.judge.Tie as tie
 
-read-header-requires : tie.Need-read-header-requires
-read-header-requires c κs = search needs
+judge-and-name-requires : tie.Need-judge-and-name-requires
+judge-and-name-requires c κs = search needs
 
 returns : tie.Need-returns
-returns c = is-ahead _ _ _ _ (c .before .before .read-header .ensures) (c .if1 .taken)
-
-returns-2 : tie.Need-returns-2
-returns-2 c = is-too-old _ _ _ _ (c .before .before .before .before .before .read-header .ensures) (c .before .before .before .if1 .left) (c .if2 .taken)
-
-conflict-requires : tie.Need-conflict-requires
-conflict-requires c κs = search needs
-
-returns-3 : tie.Need-returns-3
-returns-3 c = is-conflict _ _ _ _ (c .before .before .before .before .before .before .before .before .read-header .ensures) (c .before .before .before .before .before .before .if1 .left) (c .before .before .before .if2 .left) _ (c .before .before .conflict .ensures) (c .if3 .taken)
-
-returns-4 : tie.Need-returns-4
-returns-4 c = is-free _ _ _ _ (c .before .before .before .before .before .before .before .before .read-header .ensures) (c .before .before .before .before .before .before .if1 .left) (c .before .before .before .if2 .left) _ (c .before .before .conflict .ensures) (c .if3 .left)
+returns c = without-leaf _ _ _ _ (c .before .judge-and-name .ensures)
 
 pub judge-spec : {M : Type 1} → statement M
-judge-spec =
-    tie.close
-    (tie.spec read-header-requires returns returns-2 conflict-requires returns-3 returns-4)
+judge-spec = tie.close (tie.spec judge-and-name-requires returns)

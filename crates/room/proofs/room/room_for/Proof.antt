@@ -20,8 +20,8 @@ add-all c = record { fits = all-fits _ _ _ (c .before .before .before .before .b
 returns : tie.Need-returns
 returns c = enough _ _ _ (c .before .before .before .before .before .before .before .before .before .before .pre .0) (c .before .before .before .before .before .before .before .before .before .before .pre .1) _ (c .before .before .before .before .before .before .read-header .ensures) _ (c .before .before .before .before .before .old-limit .ensures) _ (c .before .before .before .before .tally-points .ensures) (c .if1 .taken)
 
-add-needed : tie.Need-add-needed
-add-needed c = record { fits = more-fits _ _ _ (c .before .before .before .before .before .before .before .before .before .before .before .pre .0) (c .before .before .before .before .before .before .before .before .before .before .before .pre .1) _ (c .before .before .before .before .before .before .before .read-header .ensures) _ (c .before .before .before .before .before .before .old-limit .ensures) _ (c .before .before .before .before .before .tally-points .ensures) }
+add-more : tie.Need-add-more
+add-more c = record { fits = more-fits _ _ _ (c .before .before .before .before .before .before .before .before .before .before .before .pre .0) (c .before .before .before .before .before .before .before .before .before .before .before .pre .1) _ (c .before .before .before .before .before .before .before .read-header .ensures) _ (c .before .before .before .before .before .before .old-limit .ensures) _ (c .before .before .before .before .before .tally-points .ensures) }
 
 sub-needed : tie.Need-sub-needed
 sub-needed c = search needs
@@ -31,6 +31,9 @@ count-old-requires c κs = search needs
 
 returns-2 : tie.Need-returns-2
 returns-2 c = after-drop _ _ _ (c .before .before .before .before .before .before .before .before .before .before .before .before .before .before .pre .0) (c .before .before .before .before .before .before .before .before .before .before .before .before .before .before .pre .1) _ (c .before .before .before .before .before .before .before .before .before .before .read-header .ensures) _ (c .before .before .before .before .before .before .before .before .before .old-limit .ensures) _ (c .before .before .before .before .before .before .before .before .tally-points .ensures) (c .before .before .before .before .if1 .left) _ (c .before .count-old .ensures) (omega (arith, c .if2 .taken))
+
+sub-t12 : tie.Need-sub-t12
+sub-t12 c = search needs
 
 returns-3 : tie.Need-returns-3
 returns-3 c = too-little _ _ _ (c .before .before .before .before .before .before .before .before .before .before .before .before .before .before .pre .0) (c .before .before .before .before .before .before .before .before .before .before .before .before .before .before .pre .1) _ (c .before .before .before .before .before .before .before .before .before .before .read-header .ensures) _ (c .before .before .before .before .before .before .before .before .before .old-limit .ensures) _ (c .before .before .before .before .before .before .before .before .tally-points .ensures) (c .before .before .before .before .if1 .left) _ (c .before .count-old .ensures) (omega (arith, c .if2 .left))
@@ -44,8 +47,9 @@ room-for-spec =
     tally-points-requires
     add-all
     returns
-    add-needed
+    add-more
     sub-needed
     count-old-requires
     returns-2
+    sub-t12
     returns-3)
