@@ -1,5 +1,5 @@
 // The conflict walk over a fit pool's tree, with its looks.
-mod cursor;
+pub mod cursor;
 mod search;
 
 use nodes::NO_NODE;

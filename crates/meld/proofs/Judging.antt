@@ -91,8 +91,9 @@ module _ (S : State) (r : Rec) (more : S .p < lastPosition) where
 
 -- ROW 3
 
-pub record TooMany (S : State) (ps : List Point) : Type 0 where
+pub record TooMany (S : State) (ps : List Point) (n : ℕ) : Type 0 where
   pub over : ltb (S .N) (count S ps) ≡ true
+  pub counted : n ≡ count S ps
 
 pub record FitsLean (S : State) (ps : List Point) : Type 0 where
   pub over : drops S ps ≡ true
@@ -109,12 +110,12 @@ abbrev said : ℕ → Bool → Bool → RoomSaid
 said n over d = if over then record { number = some Names.noRoom; drops-first = false; keys = some n } else record { number = none; drops-first = d; keys = none }
 
 module _ (S : State) (r : Rec) where
-  pub too-little : (n : ℕ) → saidBy (TooLittle n) ≡ roomIn S (r .points) → TooMany S (r .points)
+  pub too-little : (n : ℕ) → saidBy (TooLittle n) ≡ roomIn S (r .points) → TooMany S (r .points) n
   unfolding roomIn
   too-little n e = go (ltb (S .N) (count S (r .points))) refl e
     where
-      go : (b : Bool) → ltb (S .N) (count S (r .points)) ≡ b → saidBy (TooLittle n) ≡ said (count S (r .points)) b (drops S (r .points)) → TooMany S (r .points)
-      go true q h = record { over = q }
+      go : (b : Bool) → ltb (S .N) (count S (r .points)) ≡ b → saidBy (TooLittle n) ≡ said (count S (r .points)) b (drops S (r .points)) → TooMany S (r .points) n
+      go true q h = let d : _≡_ {A = Option ℕ} (some n) (some (count S (r .points))) = ap (λ (x : RoomSaid). x .keys) h in record { over = q; counted = cc }
       go false q h = let d : _≡_ {A = Option Answer} (some Names.noRoom) none = ap (λ (x : RoomSaid). x .number) h in let z : _≡_ {A = ℕ} 0 1 = cc in absurd (omega arith)
 
   pub after-drop : saidBy AfterDrop ≡ roomIn S (r .points) → FitsLean S (r .points)

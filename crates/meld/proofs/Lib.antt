@@ -1,8 +1,8 @@
 pub mod AfterState
-mod Judging
+pub mod Judging
 mod Verdicts
 pub mod Lookups
 mod Statuses
-mod Readings
+pub mod Readings
 pub mod Whole
 pub mod Only

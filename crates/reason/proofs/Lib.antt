@@ -1,0 +1,3 @@
+mod Touching
+mod Explaining
+mod Whole

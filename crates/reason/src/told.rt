@@ -20,9 +20,13 @@ pub enum Reason {
         touch: Touch,
     },
     // 2: how many positions back the snapshot lies.
-    TooOld { lag: u32 },
+    TooOld {
+        lag: u32,
+    },
     // 3: how many keys would have to find room.
-    NoRoom { keys: u32 },
+    NoRoom {
+        keys: u32,
+    },
 }
 
 // The answer and the looks that melding would give, and the reason.

@@ -1,32 +1,56 @@
-//! The files of `conformance/`: an input and the expected lines for each idea, for
-//! those of the page form the sizes of the parts besides; an index, and all logs in
-//! hex and in words.
+//! The files of `conformance/`: an input, the expected lines and the reasons for each
+//! idea, for those of the page form the sizes of the parts instead of reasons; an index,
+//! and all logs in hex and in words.
 
 use reference::pages::{self, sizes_text};
 use reference::program::lines;
+use reference::reason;
 use reference::words::input_words;
 
 use crate::{ideas, Case, InParts};
 
+/// The ideas with their numbers: those of the program, those in parts, and those for
+/// which the reasons matter.
+struct Set {
+    whole: Vec<(usize, Case)>,
+    in_parts: Vec<(usize, InParts)>,
+    reasons: Vec<(usize, Case)>,
+}
+
+impl Set {
+    /// All of them.
+    fn new() -> Set {
+        let (whole, in_parts) = (ideas::all(), ideas::parts::all());
+        let (first_part, first_reason) = (whole.len(), whole.len() + in_parts.len());
+        Set {
+            whole: (0..).zip(whole).collect(),
+            in_parts: (first_part..).zip(in_parts).collect(),
+            reasons: (first_reason..).zip(ideas::reason::all()).collect(),
+        }
+    }
+}
+
 /// The files by name, in a fixed order.
 pub fn files() -> Vec<(String, Vec<u8>)> {
-    let (cases, in_parts) = (ideas::all(), ideas::parts::all());
+    let set = Set::new();
     let mut files = Vec::new();
-    for (index, case) in cases.iter().enumerate() {
-        let name = file_name(index, case);
+    for (index, case) in set.whole.iter().chain(&set.reasons) {
+        let name = file_name(*index, case);
+        let reasons = reason::lines(&case.input);
         files.push((format!("{name}.input"), case.input.clone()));
         files.push((format!("{name}.expected"), lines(&case.input).into_bytes()));
+        files.push((format!("{name}.reasons"), reasons.into_bytes()));
     }
-    for (index, InParts { case, sizes }) in in_parts.iter().enumerate() {
-        let name = file_name(cases.len() + index, case);
+    for (index, InParts { case, sizes }) in &set.in_parts {
+        let name = file_name(*index, case);
         let expected = pages::lines(&case.input, sizes);
         files.push((format!("{name}.input"), case.input.clone()));
         files.push((format!("{name}.parts"), sizes_text(sizes).into_bytes()));
         files.push((format!("{name}.expected"), expected.into_bytes()));
     }
     let pages = [
-        ("README.md", index_page(&cases, &in_parts)),
-        ("WORDS.md", words_page(&cases, &in_parts)),
+        ("README.md", index_page(&set)),
+        ("WORDS.md", words_page(&set)),
     ];
     files.extend(pages.map(|(name, page)| (name.to_string(), page.into_bytes())));
     files
@@ -38,7 +62,7 @@ pub fn file_name(index: usize, case: &Case) -> String {
 }
 
 /// The index: what each file catches.
-fn index_page(cases: &[Case], in_parts: &[InParts]) -> String {
+fn index_page(set: &Set) -> String {
     let mut page = String::from(
         "# Conformance\n\n\
          Each pair of files has one idea: `NAME.input` is what the program reads (N and Z, four\n\
@@ -46,43 +70,57 @@ fn index_page(cases: &[Case], in_parts: &[InParts]) -> String {
          are in [docs/RULES.md](../docs/RULES.md); its last table says which files try which rule.\n\
          [How to check your port](CHECK.md) says how to use the files, `check PROGRAM` does it.\n\
          [WORDS.md](WORDS.md) has every input in hex and in words.\n\n\
-         Where there is a `NAME.parts` besides, it has the sizes of the parts that the log is fed\n\
+         `NAME.reasons` has nine numbers for each record, with the reason of its answer (R50):\n\
+         `check --reasons PROGRAM`.\n\n\
+         Where there is a `NAME.parts` instead, it has the sizes of the parts that the log is fed\n\
          in (R47), and `NAME.expected` a line for each call: `check --parts PROGRAM`.\n\n\
          Written by hand: `CHECK.md`, `check` and `.gitattributes`. All others, that is each\n\
-         `.input`, `.parts` and `.expected`, `WORDS.md` and this page, are made by\n\
-         `cases conformance ../conformance` in `host/` (see `docs/HOST.md`); change them there.\n\n\
-         | file | catches |\n|---|---|\n",
+         `.input`, `.parts`, `.expected` and `.reasons`, `WORDS.md` and this page, are made by\n\
+         `cases conformance ../conformance` in `host/` (see `docs/HOST.md`); change them there.\n\n",
     );
-    for (index, case) in cases.iter().enumerate() {
-        page += &format!("| {} | {} |\n", file_name(index, case), case.catches);
-    }
-    page += "\nIn parts:\n\n| file | catches |\n|---|---|\n";
-    for (index, InParts { case, .. }) in in_parts.iter().enumerate() {
-        let name = file_name(cases.len() + index, case);
-        page += &format!("| {name} | {} |\n", case.catches);
-    }
+    let whole = set.whole.iter().map(|(index, case)| (*index, case));
+    let in_parts = set.in_parts.iter();
+    let in_parts = in_parts.map(|(index, InParts { case, .. })| (*index, case));
+    let reasons = set.reasons.iter().map(|(index, case)| (*index, case));
+    page += &index_table(whole);
+    page += "\nIn parts:\n\n";
+    page += &index_table(in_parts);
+    page += "\nWith reasons that matter:\n\n";
+    page += &index_table(reasons);
     page
 }
 
+/// A table of files and what each catches.
+fn index_table<'a>(cases: impl Iterator<Item = (usize, &'a Case)>) -> String {
+    let row = |(index, case): (usize, &Case)| {
+        format!("| {} | {} |\n", file_name(index, case), case.catches)
+    };
+    let rows: String = cases.map(row).collect();
+    format!("| file | catches |\n|---|---|\n{rows}")
+}
+
 /// Every input in hex and in words, with the answers.
-fn words_page(cases: &[Case], in_parts: &[InParts]) -> String {
+fn words_page(set: &Set) -> String {
     let mut page = String::from(
         "# The inputs in words\n\n\
-         Each record in words, with the answer and looks it is to get, and its bytes below. For a log\n\
-         in parts also the sizes of the parts, and what each call says, with its looks, the bytes it\n\
-         takes and the bytes that are carried then.\n",
+         Each record in words, with the answer, the looks and the reason it is to get, and its bytes below.\n\
+         For a log in parts also the sizes of the parts, and what each call says, with its looks, the bytes\n\
+         it takes and the bytes that are carried then.\n",
     );
-    for (index, case) in cases.iter().enumerate() {
-        page += &words_of(&file_name(index, case), case);
+    for (index, case) in &set.whole {
+        page += &words_of(&file_name(*index, case), case);
     }
-    for (index, InParts { case, sizes }) in in_parts.iter().enumerate() {
-        page += &words_of(&file_name(cases.len() + index, case), case);
+    for (index, InParts { case, sizes }) in &set.in_parts {
+        page += &words_of(&file_name(*index, case), case);
         let sizes_line = match sizes_text(sizes) {
             none if none.is_empty() => "none, the log is one part\n".to_string(),
             some => some,
         };
         let calls = pages::lines(&case.input, sizes);
         page += &format!("\nSizes: {sizes_line}\n```\n{calls}```\n");
+    }
+    for (index, case) in &set.reasons {
+        page += &words_of(&file_name(*index, case), case);
     }
     page
 }

@@ -67,7 +67,7 @@ fn write_files(folder: &Path) -> io::Result<()> {
     for entry in fs::read_dir(folder)? {
         let path = entry?.path();
         let ending = path.extension().and_then(|ending| ending.to_str());
-        if matches!(ending, Some("input" | "parts" | "expected")) {
+        if matches!(ending, Some("input" | "parts" | "expected" | "reasons")) {
             fs::remove_file(path)?;
         }
     }

@@ -4,6 +4,7 @@ use std::collections::BTreeSet;
 
 use cases::{all, ideas, sequence, Case, InParts};
 use compare::mistaken::feed::{self, FeedMistake};
+use compare::mistaken::reason::{self, ReasonMistake};
 use compare::mistaken::{lines, Mistake};
 use reference::log::parts;
 use reference::pages;
@@ -52,6 +53,122 @@ fn the_conformance_set_in_parts_catches_every_mistake_that_lines_show() {
         println!("{}: {}", mistake.words(), names.join(", "));
         let shown = !FeedMistake::IN_CALLS_ONLY.contains(&mistake);
         assert_eq!(!names.is_empty(), shown, "{}", mistake.words());
+    }
+}
+
+/// Do the reasons with this mistake differ for this case?
+fn shows_in_reasons(case: &Case, mistake: Option<ReasonMistake>) -> bool {
+    reason::lines(mistake, &case.input) != reference::reason::lines(&case.input)
+}
+
+#[test]
+fn a_second_way_to_the_reasons_agrees_on_every_case() {
+    for case in all().iter().chain(&ideas::reason::all()) {
+        assert!(!shows_in_reasons(case, None), "{}", case.name);
+    }
+}
+
+/// The mistakes, and the case that is made for each.
+const MADE_FOR: &[(ReasonMistake, &str)] = &[
+    (ReasonMistake::LargestKey, "reason-smallest-key"),
+    (ReasonMistake::NewestKey, "reason-smallest-key"),
+    (ReasonMistake::OldestKey, "reason-smallest-key"),
+    (ReasonMistake::PointsFirst, "reason-smallest-in-a-scan"),
+    (ReasonMistake::ScansFirst, "reason-smallest-in-a-point"),
+    (ReasonMistake::SignedKey, "reason-smallest-unsigned"),
+    (ReasonMistake::LiveKey, "reason-deleted-key"),
+    (ReasonMistake::KeptKey, "reason-key-written-before"),
+    (ReasonMistake::KeyZeroIsNone, "reason-keys-0-and-highest"),
+    (ReasonMistake::ScanLowTold, "reason-key-in-a-scan"),
+    (ReasonMistake::ScanBeforePoint, "reason-point-before-scan"),
+    (ReasonMistake::BothTold, "reason-point-before-scan"),
+    (ReasonMistake::PointAtOrAbove, "reason-point-beside"),
+    (ReasonMistake::PointsFromZero, "reason-point-numbers"),
+    (ReasonMistake::PointsOfItsKind, "reason-point-numbers"),
+    (ReasonMistake::ScansFromZero, "reason-scan-numbers"),
+    (ReasonMistake::ScansBehindPoints, "reason-scan-numbers"),
+    (ReasonMistake::OwnPosition, "reason-writers-position"),
+    (ReasonMistake::LastPosition, "reason-writers-position"),
+    (ReasonMistake::SnapshotTold, "reason-writers-position"),
+    (ReasonMistake::FirstWrite, "reason-last-write"),
+    (ReasonMistake::FirstWriteSince, "reason-last-write"),
+    (ReasonMistake::NewestInConflict, "reason-newest-of-others"),
+    (ReasonMistake::NewestOfAll, "reason-newest-of-others"),
+    (ReasonMistake::RefusedWriter, "reason-refused-is-no-writer"),
+    (ReasonMistake::ReadWriter, "reason-reads-do-not-write"),
+    (ReasonMistake::LagFromV, "reason-lag"),
+    (ReasonMistake::LagIsZ, "reason-lag"),
+    (ReasonMistake::LagBeyondZ, "reason-lag"),
+    (
+        ReasonMistake::LagWithConflict,
+        "reason-lag-only-when-too-old",
+    ),
+    (ReasonMistake::LagWithAhead, "reason-lag-only-when-too-old"),
+    (ReasonMistake::OldHasConflict, "reason-old-before-conflict"),
+    (
+        ReasonMistake::WrittenNotCounted,
+        "reason-keys-kept-and-written",
+    ),
+    (ReasonMistake::CountedTwice, "reason-keys-kept-and-written"),
+    (ReasonMistake::KeysBeyondN, "reason-keys-beyond-n"),
+    (ReasonMistake::KeysIsN, "reason-keys-beyond-n"),
+    (
+        ReasonMistake::DeletesNotCounted,
+        "reason-keys-deleted-and-read",
+    ),
+    (ReasonMistake::ReadsCounted, "reason-keys-deleted-and-read"),
+    (
+        ReasonMistake::TombstonesNotCounted,
+        "reason-young-tombstones",
+    ),
+    (
+        ReasonMistake::TombstonesCountedShort,
+        "reason-young-tombstones",
+    ),
+    (ReasonMistake::OldTombstonesCounted, "reason-old-tombstones"),
+    (
+        ReasonMistake::TombstonesCountedLong,
+        "reason-old-tombstones",
+    ),
+    (
+        ReasonMistake::OldTombstonesCounted,
+        "reason-old-and-young-tombstones",
+    ),
+    (
+        ReasonMistake::TombstonesNotCounted,
+        "reason-old-and-young-tombstones",
+    ),
+    (
+        ReasonMistake::OldRewrittenLost,
+        "reason-old-tombstone-written",
+    ),
+    (ReasonMistake::KeysWithCommitted, "reason-none"),
+    (ReasonMistake::LagWithAhead, "reason-none"),
+    (
+        ReasonMistake::KeysWithConflict,
+        "reason-conflict-before-room",
+    ),
+    (ReasonMistake::LooksMissing, "reason-looks"),
+    (ReasonMistake::LooksGoOn, "reason-looks"),
+    (ReasonMistake::ExplainingMelds, "reason-changes-nothing"),
+];
+
+#[test]
+fn every_mistake_in_reasons_is_caught_by_the_case_made_for_it() {
+    let cases = ideas::reason::all();
+    for (mistake, name) in MADE_FOR {
+        let made = cases.iter().find(|case| case.name == *name);
+        let made = made.unwrap_or_else(|| panic!("there is no case {name}"));
+        let caught = shows_in_reasons(made, Some(*mistake));
+        assert!(caught, "{name} does not catch: {}", mistake.words());
+    }
+    for mistake in ReasonMistake::ALL {
+        let made = MADE_FOR.iter().any(|(other, _)| other == mistake);
+        assert!(made, "no case is made for: {}", mistake.words());
+    }
+    for case in cases {
+        let made = MADE_FOR.iter().any(|(_, name)| *name == case.name);
+        assert!(made, "{} is made for nothing", case.name);
     }
 }
 
@@ -115,7 +232,8 @@ fn every_flaw_is_there() {
 fn names_differ_and_fit_a_file() {
     let mut seen = BTreeSet::new();
     let in_parts = ideas::parts::all().into_iter().map(|parts| parts.case);
-    for case in all().into_iter().chain(in_parts) {
+    let reasons = ideas::reason::all();
+    for case in all().into_iter().chain(in_parts).chain(reasons) {
         let fits =
             |letter: char| letter.is_ascii_lowercase() || letter.is_ascii_digit() || letter == '-';
         assert!(case.name.chars().all(fits), "{}", case.name);

@@ -20,8 +20,9 @@ use compare::shrink;
 use compare::trial::Trial;
 use reference::pages::{self, sizes_text};
 use reference::program;
+use reference::reason;
 use reference::words::{hex, input_words_up_to};
-use reference::{Answer, Said, State};
+use reference::{Answer, Reason, Said, State, Touch};
 
 fn main() -> ExitCode {
     let arguments: Vec<String> = std::env::args().skip(1).collect();
@@ -135,6 +136,9 @@ fn count(setting: Setting, trial: &Trial, tally: &mut Tally) {
             for verdict in run.verdicts {
                 add(format!("records {}", named(verdict.answer)));
             }
+            if setting.reasons {
+                reasons(&trial.input).into_iter().for_each(&mut add);
+            }
             add(if setting.unread {
                 "logs unread"
             } else if run.ended {
@@ -158,6 +162,23 @@ fn count(setting: Setting, trial: &Trial, tally: &mut Tally) {
     }
 }
 
+/// What the reasons of a log tell.
+fn reasons(input: &[u8]) -> Vec<String> {
+    let explained = reason::run(input).map_or(Vec::new(), |run| run.verdicts);
+    let told = explained.iter().filter_map(|told| match told.reason {
+        Reason::Nothing => None,
+        Reason::Conflict { touch, .. } => Some(match touch {
+            Touch::Point(1) => "point 1",
+            Touch::Point(_) => "later point",
+            Touch::Scan(1) => "scan 1",
+            Touch::Scan(_) => "later scan",
+        }),
+        Reason::TooOld { .. } => Some("lag"),
+        Reason::NoRoom { .. } => Some("keys"),
+    });
+    told.map(|what| format!("reasons {what}")).collect()
+}
+
 /// The seed, the smallest log found that differs, and where it differs.
 fn report(setting: Setting, program: &Program<'_>, seed: u64, trial: &Trial) {
     println!("seed {seed} differs; looking for a small log");
@@ -169,7 +190,7 @@ fn report(setting: Setting, program: &Program<'_>, seed: u64, trial: &Trial) {
         trial.input.len()
     );
     println!("{}", hex(&small.input));
-    println!("in words, with the answers of the reference:");
+    println!("in words, with the answers and the reasons of the reference:");
     print!("{}", input_words_up_to(setting.most(), &small.input));
     if let Some(sizes) = &small.sizes {
         println!("the sizes of the parts: {}", sizes_text(sizes).trim_end());

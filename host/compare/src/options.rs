@@ -12,8 +12,8 @@ use crate::setting::Setting;
 /// What to say when the command line is not understood.
 pub const USAGE: &str = "\
 usage: compare --program PATH [--argument WORD]... [--seeds FROM..TO | --fresh N] [--jobs J]
-               [--full] [--unread] [--parts]
-       compare --input SEED [--full] [--parts]
+               [--full] [--unread] [--parts | --reasons]
+       compare --input SEED [--full] [--parts | --reasons]
        compare --sizes SEED
 
 --program PATH    the program to compare with the reference
@@ -25,6 +25,7 @@ usage: compare --program PATH [--argument WORD]... [--seeds FROM..TO | --fresh N
 --unread          reading fails where the input's bytes are over
 --parts           the page form (R47): PROGRAM FILE, where the file has the sizes of the
                   parts that the log is fed in; not with --full or --unread
+--reasons         the reasons (R50), nine numbers a record, for N up to 65,536
 --input SEED      write the input of a seed to standard output instead
 --sizes SEED      write the sizes of the parts that --parts cuts it into at random";
 
@@ -63,6 +64,7 @@ pub fn parse(arguments: &[String]) -> Option<Task> {
             "--full" => setting.full = true,
             "--unread" => setting.unread = true,
             "--parts" => setting.parts = true,
+            "--reasons" => setting.reasons = true,
             "--program" => program = Some(PathBuf::from(words.next()?)),
             "--seeds" => seeds = range(words.next()?)?,
             "--fresh" => seeds = fresh(words.next()?.parse().ok()?),
@@ -73,7 +75,7 @@ pub fn parse(arguments: &[String]) -> Option<Task> {
             _ => return None,
         }
     }
-    if setting.parts && (setting.full || setting.unread) {
+    if setting.parts && (setting.full || setting.unread || setting.reasons) {
         return None;
     }
     match (program, input, sizes) {
@@ -156,6 +158,22 @@ mod tests {
     }
 
     #[test]
+    fn reasons_may_be_asked_for_at_full_size() {
+        let Some(Task::Compare { setting, .. }) = arguments("--reasons --program p") else {
+            panic!("not understood");
+        };
+        assert!(setting.reasons && !setting.full && !setting.parts);
+        let full = Setting {
+            full: true,
+            ..setting
+        };
+        assert_eq!(
+            arguments("--full --reasons --input 7"),
+            Some(Task::Input(full, 7))
+        );
+    }
+
+    #[test]
     fn fresh_seeds_are_as_many_as_asked_for() {
         let Some(Task::Compare { seeds, .. }) = arguments("--program p --fresh 12") else {
             panic!("not understood");
@@ -174,6 +192,7 @@ mod tests {
             "--program p --argument",
             "--program p --parts --full",
             "--program p --parts --unread",
+            "--program p --parts --reasons",
             "--input 1 --sizes 1",
             "x y",
         ] {

@@ -1,9 +1,10 @@
-//! What is compared: the program of R41, that of R46 or the page form (R47), on
-//! inputs that end or on inputs whose reading fails.
+//! What is compared: the program of R41, that of R46, the page form (R47) or the reasons
+//! (R50), on inputs that end or on inputs whose reading fails.
 
 use reference::log::parts;
 use reference::pages;
 use reference::program::{self, split_up_to, FULL_N, MOST_N};
+use reference::reason;
 
 use crate::generate;
 use crate::process::{self, Command};
@@ -25,12 +26,14 @@ pub struct Setting {
     pub unread: bool,
     /// Is it the page form, the log in parts?
     pub parts: bool,
+    /// Are the reasons told, nine numbers a record?
+    pub reasons: bool,
 }
 
 impl Setting {
     /// The largest N of the program.
     pub fn most(self) -> u32 {
-        if self.full {
+        if self.full || self.reasons {
             FULL_N
         } else {
             MOST_N
@@ -52,6 +55,8 @@ impl Setting {
             generate::full_input(seed)
         } else if self.parts {
             generate::paged_input(seed)
+        } else if self.reasons {
+            generate::reasoned_input(seed)
         } else {
             generate::input(seed)
         };
@@ -66,6 +71,8 @@ impl Setting {
     pub fn lines(self, trial: &Trial) -> String {
         match &trial.sizes {
             Some(sizes) => pages::lines(&trial.input, sizes),
+            None if self.reasons && self.unread => reason::lines_unread(&trial.input),
+            None if self.reasons => reason::lines(&trial.input),
             None if self.unread => program::lines_unread(self.most(), &trial.input),
             None => program::lines_up_to(self.most(), &trial.input),
         }

@@ -4,6 +4,7 @@ use compare::calls::Call;
 use compare::check::difference;
 use compare::generate;
 use compare::mistaken::feed::{self, FeedMistake};
+use compare::mistaken::reason::{self, ReasonMistake};
 use compare::mistaken::{lines, Mistake};
 use compare::setting::Setting;
 use compare::shrink::shrink;
@@ -15,6 +16,15 @@ const PARTS: Setting = Setting {
     full: false,
     unread: false,
     parts: true,
+    reasons: false,
+};
+
+/// The reasons.
+const REASONS: Setting = Setting {
+    full: false,
+    unread: false,
+    parts: false,
+    reasons: true,
 };
 
 /// The page form with this mistake.
@@ -100,5 +110,33 @@ fn every_mistake_of_feeding_is_caught_by_single_calls() {
         let count = calls.iter().filter(differs).count();
         println!("{mistake:?}: {count} of {} calls", calls.len());
         assert!(count > 2, "not caught: {}", mistake.words());
+    }
+}
+
+#[test]
+fn reasons_by_kept_positions_are_those_by_committed_writes() {
+    for seed in 0..1_500 {
+        for trial in REASONS.trials(seed) {
+            let program = |trial: &Trial| Ok(reason::lines(None, &trial.input));
+            assert_eq!(difference(REASONS, &program, &trial), None, "seed {seed}");
+        }
+    }
+}
+
+/// In few logs, and cut down to a few records.
+#[test]
+fn every_mistake_in_reasons_is_caught_and_cut_down() {
+    let trials: Vec<Trial> = (0..150).flat_map(|seed| REASONS.trials(seed)).collect();
+    for &mistake in ReasonMistake::ALL {
+        let program = |trial: &Trial| Ok(reason::lines(Some(mistake), &trial.input));
+        let mut differs = |trial: &Trial| difference(REASONS, &program, trial).is_some();
+        let found: Vec<&Trial> = trials.iter().filter(|trial| differs(trial)).collect();
+        assert!(found.len() > 2, "not caught: {}", mistake.words());
+        let small = shrink(REASONS.most(), found[0], &mut differs).input.len();
+        println!(
+            "{mistake:?}: {} logs, cut down to {small} bytes",
+            found.len()
+        );
+        assert!(small < 1_000, "{mistake:?}: {small} bytes");
     }
 }

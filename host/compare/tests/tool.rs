@@ -105,3 +105,42 @@ fn no_file_of_sizes_is_left_behind() {
     std::fs::remove_dir_all(&folder).unwrap();
     assert_eq!((output.status.code(), left), (Some(0), 0));
 }
+
+const EXPLAINED: [&str; 3] = ["--reasons", "--program", env!("CARGO_BIN_EXE_misexplained")];
+
+#[test]
+fn agreement_in_reasons_has_status_0() {
+    for more in [
+        &["--seeds", "0..40"][..],
+        &["--fresh", "20"],
+        &["--full", "--seeds", "1..4"],
+    ] {
+        let output = compare(None, &[&EXPLAINED[..], more].concat());
+        assert_eq!(output.status.code(), Some(0));
+        let text = String::from_utf8(output.stdout).unwrap();
+        assert!(text.contains(" reasons "), "{text}");
+        assert!(text.contains("no difference in "));
+    }
+}
+
+#[test]
+fn a_difference_in_reasons_shows_a_small_log_and_its_reasons() {
+    let more = [
+        "--argument",
+        "SnapshotTold",
+        "--seeds",
+        "0..60",
+        "--jobs",
+        "1",
+    ];
+    let output = compare(None, &[&EXPLAINED[..], &more].concat());
+    assert_eq!(output.status.code(), Some(1));
+    let text = String::from_utf8(output.stdout).unwrap();
+    assert!(text.contains(", written at 1, point 1\n"), "{text}");
+    assert!(text.contains("line 2 is to be `2 1 1 "), "{text}");
+    assert!(
+        text.contains(" 1 1 0 0 0`\nthe program has  `2 1 1 "),
+        "{text}"
+    );
+    assert!(text.contains(" 0 1 0 0 0`\n"), "{text}");
+}

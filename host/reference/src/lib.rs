@@ -3,9 +3,9 @@
 //! a rule of that page.
 //!
 //! From the bottom up: `answer`, `flaw`, `record`, `lists`, `log`, `tree`, `state`,
-//! `refresh`, `feed`, `program`, `pages`; `layout` for the bytes of a pool. `table`
-//! has the eleven rows of R44, `words` puts inputs into words, `random` is for tests
-//! and for the tool that compares.
+//! `refresh`, `feed`, `program`, `pages`, `reason`; `layout` for the bytes of a pool.
+//! `table` has the eleven rows of R44, `words` puts inputs into words, `random` is for
+//! tests and for the tool that compares.
 #![forbid(unsafe_code)]
 
 pub mod answer;
@@ -17,6 +17,7 @@ pub mod log;
 pub mod pages;
 pub mod program;
 pub mod random;
+pub mod reason;
 pub mod record;
 pub mod refresh;
 pub mod state;
@@ -28,5 +29,6 @@ pub use answer::Answer;
 pub use feed::{feed, Fed, Said};
 pub use flaw::Flaw;
 pub use log::{LogReader, Step};
+pub use reason::{explain, Explained, Reason, Touch};
 pub use record::{Kind, Point, Record, Scan};
 pub use state::{Limits, State, Status, Verdict};

@@ -11,13 +11,13 @@ pub const MOST_N: u32 = 1_000;
 /// The largest N that the program at full size takes (R46).
 pub const FULL_N: u32 = 65_536;
 
-/// A whole run over a log.
+/// A whole run over a log, with what is told of each record: its verdict, or more.
 #[derive(Clone, Debug)]
-pub struct Run {
+pub struct Run<Told = Verdict> {
     /// The state after the last record.
     pub state: State,
     /// A verdict for each record, the first at position 1.
-    pub verdicts: Vec<Verdict>,
+    pub verdicts: Vec<Told>,
     /// Did the walk reach "end"? If not, it met 10.
     pub ended: bool,
     /// Did it meet a length that cannot be?
@@ -53,13 +53,22 @@ pub fn run(input: &[u8]) -> Result<Run, Answer> {
 
 /// The same for N up to `most`.
 pub fn run_up_to(most: u32, input: &[u8]) -> Result<Run, Answer> {
+    run_by(State::meld, most, input)
+}
+
+/// The same with what `meld` tells of each record that it melds.
+pub fn run_by<Told>(
+    meld: impl Fn(&mut State, &[u8]) -> Told,
+    most: u32,
+    input: &[u8],
+) -> Result<Run<Told>, Answer> {
     let (limits, log) = split_up_to(most, input)?;
     let mut state = State::new(limits);
     let mut verdicts = Vec::new();
     let mut reader = LogReader::new(log);
     loop {
         match reader.step() {
-            Step::Part(part) => verdicts.push(state.meld(part)),
+            Step::Part(part) => verdicts.push(meld(&mut state, part)),
             Step::End => {
                 return Ok(Run {
                     state,
@@ -88,34 +97,56 @@ pub fn lines(input: &[u8]) -> String {
 
 /// The same for N up to `most`.
 pub fn lines_up_to(most: u32, input: &[u8]) -> String {
-    match run_up_to(most, input) {
-        Err(answer) => format!("{}\n", answer.number()),
-        Ok(run) if run.ended => record_lines(&run) + "end\n",
-        Ok(run) => format!("{}{}\n", record_lines(&run), Answer::BrokenLog.number()),
-    }
+    text(&run_up_to(most, input), line)
 }
 
 /// What the program prints where its input can be read so far and no further:
 /// the lines of the records in it, and no closing line. Limits that were read and
 /// are bad end it before that, and so does a length that cannot be.
 pub fn lines_unread(most: u32, input: &[u8]) -> String {
-    match run_up_to(most, input) {
+    text_unread(&run_up_to(most, input), input, line)
+}
+
+/// A run's text: a line for each record and a closing line, or only 9.
+pub fn text<Told>(
+    run: &Result<Run<Told>, Answer>,
+    line: impl Fn(usize, &Told) -> String,
+) -> String {
+    match run {
+        Err(answer) => closing(*answer),
+        Ok(run) if run.ended => record_lines(run, line) + "end\n",
+        Ok(run) => record_lines(run, line) + &closing(Answer::BrokenLog),
+    }
+}
+
+/// The same where this input can be read so far and no further.
+pub fn text_unread<Told>(
+    run: &Result<Run<Told>, Answer>,
+    input: &[u8],
+    line: impl Fn(usize, &Told) -> String,
+) -> String {
+    match run {
         Err(_) if input.len() < 8 => String::new(),
-        Err(answer) => format!("{}\n", answer.number()),
-        Ok(run) if run.impossible => {
-            format!("{}{}\n", record_lines(&run), Answer::BrokenLog.number())
-        }
-        Ok(run) => record_lines(&run),
+        Ok(run) if !run.impossible => record_lines(run, line),
+        known => text(known, line),
     }
 }
 
 /// A line for each record.
-fn record_lines(run: &Run) -> String {
-    let verdicts = run.verdicts.iter().enumerate();
-    verdicts
-        .map(|(index, verdict)| {
-            let (answer, looks) = (verdict.answer.number(), verdict.looks);
-            format!("{} {answer} {looks}\n", index + 1)
-        })
+fn record_lines<Told>(run: &Run<Told>, line: impl Fn(usize, &Told) -> String) -> String {
+    let numbered = run.verdicts.iter().enumerate();
+    numbered
+        .map(|(index, told)| line(index + 1, told))
         .collect()
+}
+
+/// The line of a record at a position.
+fn line(position: usize, verdict: &Verdict) -> String {
+    let (answer, looks) = (verdict.answer.number(), verdict.looks);
+    format!("{position} {answer} {looks}\n")
+}
+
+/// A closing line that is an answer.
+fn closing(answer: Answer) -> String {
+    format!("{}\n", answer.number())
 }

@@ -151,25 +151,32 @@ impl State {
 
     /// R23: decides the record at p + 1 and leaves behind what the table says.
     pub fn meld(&mut self, bytes: &[u8]) -> Verdict {
+        let verdict = self.verdict(bytes);
+        if verdict.answer == Answer::PositionsUsedUp {
+            return verdict;
+        }
+        if verdict.answer == Answer::Committed {
+            self.store(&Record::parse(bytes).expect("what commits is well formed"));
+        }
+        self.position += 1;
+        verdict
+    }
+
+    /// The answer (R23) and the looks (R36) of the record at p + 1.
+    pub fn verdict(&self, bytes: &[u8]) -> Verdict {
         if self.position == u32::MAX {
             return Verdict {
                 answer: Answer::PositionsUsedUp,
                 looks: 0,
             };
         }
-        let verdict = match self.admit(bytes) {
+        match self.admit(bytes) {
             Err(answer) => Verdict { answer, looks: 0 },
-            Ok(record) => {
-                let answer = self.decide(&record);
-                let looks = self.looks(&record);
-                if answer == Answer::Committed {
-                    self.store(&record);
-                }
-                Verdict { answer, looks }
-            }
-        };
-        self.position += 1;
-        verdict
+            Ok(record) => Verdict {
+                answer: self.decide(&record),
+                looks: self.looks(&record),
+            },
+        }
     }
 
     /// Answers 4, 5 and 2: the record, if none of them applies.
@@ -198,17 +205,22 @@ impl State {
     /// R25, word for word: a key named or scanned was written by a committed
     /// record at s + 1 to p.
     pub fn conflict(&self, record: &Record) -> bool {
+        self.in_conflict(record).next().is_some()
+    }
+
+    /// The writes that R25 speaks of, the last one first.
+    pub fn in_conflict<'a>(&'a self, record: &'a Record) -> impl Iterator<Item = &'a Write> {
         let zone = self
             .committed
             .iter()
             .rev()
             .take_while(|write| write.position > record.snapshot);
-        zone.into_iter().any(|write| record.touches(write.key))
+        zone.filter(|write| record.touches(write.key))
     }
 
     /// R26's count: live keys, tombstones w with w + Z > v, and the keys this
     /// record writes, each key once.
-    fn needed(&self, record: &Record) -> usize {
+    pub fn needed(&self, record: &Record) -> usize {
         let staying = self
             .kept
             .iter()

@@ -1,8 +1,10 @@
 //! An input in hex and in words, with the verdicts, for people to read.
 
 use crate::log::parts;
-use crate::program::{run_up_to, split_up_to, MOST_N};
+use crate::program::{split_up_to, MOST_N};
+use crate::reason::{self, Explained};
 use crate::record::{Kind, Record};
+use crate::state::Verdict;
 
 /// Bytes as pairs of hex digits with single spaces.
 pub fn hex(bytes: &[u8]) -> String {
@@ -33,14 +35,25 @@ pub fn record_words(bytes: &[u8]) -> String {
     words
 }
 
-/// A whole input: limits, each record with its verdict, and what is at the end.
+/// Answer, looks and the reason, where there is one.
+fn explained_words(explained: &Explained) -> String {
+    let Verdict { answer, looks } = explained.verdict;
+    let said = format!("{} {}, looks {looks}", answer.number(), answer.name());
+    match explained.reason.words() {
+        None => said,
+        Some(reason) => format!("{said}: {reason}"),
+    }
+}
+
+/// A whole input: limits, each record with its verdict and the reason, and what is at
+/// the end.
 pub fn input_words(input: &[u8]) -> String {
     input_words_up_to(MOST_N, input)
 }
 
 /// The same for N up to `most`.
 pub fn input_words_up_to(most: u32, input: &[u8]) -> String {
-    let (Ok((limits, log)), Ok(run)) = (split_up_to(most, input), run_up_to(most, input)) else {
+    let (Ok((limits, log)), Ok(run)) = (split_up_to(most, input), reason::run(input)) else {
         return format!("bad limits\n    {}\n", hex(input));
     };
     let mut text = format!(
@@ -50,10 +63,9 @@ pub fn input_words_up_to(most: u32, input: &[u8]) -> String {
         hex(&input[..8])
     );
     let (parts, rest) = parts(log);
-    for (index, (part, verdict)) in parts.iter().zip(&run.verdicts).enumerate() {
-        let (answer, looks) = (verdict.answer, verdict.looks);
+    for (index, (part, explained)) in parts.iter().zip(&run.verdicts).enumerate() {
         text += &format!("{}: {}", index + 1, record_words(part));
-        text += &format!(" -> {} {}, looks {looks}\n", answer.number(), answer.name());
+        text += &format!(" -> {}\n", explained_words(explained));
         text += &format!("    {}\n", hex(part));
     }
     if run.ended {

@@ -1,6 +1,6 @@
 //! The conformance set: small logs, one idea each, by section of docs/RULES.md.
 //! The snapshot read little-endian comes first. Module `parts` has those of the
-//! page form.
+//! page form, module `reason` those for which the reasons matter.
 
 mod conflict;
 mod easy;
@@ -8,6 +8,7 @@ mod limits;
 mod log;
 mod looks;
 pub mod parts;
+pub mod reason;
 mod record;
 mod room;
 mod zone;

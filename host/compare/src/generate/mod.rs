@@ -2,8 +2,10 @@
 //!
 //! `profile` says what kind of log it is to be, `keys` which keys it uses,
 //! `record` makes one record for the state so far, `malformed` spoils records,
-//! `ending` spoils the log's end and its limits, `sizes` cuts the log into parts.
+//! `beaten` makes logs for reasons, `ending` spoils the log's end and its limits,
+//! `sizes` cuts the log into parts.
 
+mod beaten;
 pub mod ending;
 pub mod keys;
 pub mod malformed;
@@ -43,7 +45,16 @@ pub fn paged_input(seed: u64) -> Vec<u8> {
     }
 }
 
-/// The same with its log in parts: cut at random, and if it is short at every
+/// The input of a seed for reasons (R50). One seed in five has records that are beaten
+/// through any of their points and scans.
+pub fn reasoned_input(seed: u64) -> Vec<u8> {
+    match seed % 5 {
+        4 => beaten::input(&mut Random::new(seed)),
+        _ => input(seed),
+    }
+}
+
+/// The input of a seed for the page form with its log in parts: cut at random, and if it is short at every
 /// place besides.
 pub fn in_parts(seed: u64) -> Vec<Trial> {
     let input = paged_input(seed);

@@ -180,6 +180,19 @@ impl Profile {
         }
     }
 
+    /// Room for all that is written, and writers a few positions back.
+    pub fn beaten(random: &mut Random) -> Profile {
+        let count = 10 + random.below(150);
+        Profile {
+            n: random.pick(&[20, 200, 1_000]),
+            z: random.between(2, 9),
+            records: 10 + random.below(30),
+            keys: universe(count, random),
+            points: 4,
+            ..Profile::tiny(random)
+        }
+    }
+
     /// Long zones with little in them.
     fn sleepy(random: &mut Random) -> Profile {
         let z = random.between(20, 300);

@@ -78,12 +78,17 @@ fn points(count: usize, profile: &Profile, state: &State, random: &mut Random) -
     keys.sort_unstable();
     keys.dedup();
     keys.truncate(count);
-    let point = |key| match random.below(100) {
+    let point = |key| point(profile, key, random);
+    keys.into_iter().map(point).collect()
+}
+
+/// A point with this key: put, delete or read in the profile's shares.
+pub(super) fn point(profile: &Profile, key: u32, random: &mut Random) -> Point {
+    match random.below(100) {
         share if share < profile.puts => Point::put(key, payload(random)),
         share if share < profile.puts + profile.deletes => Point::delete(key),
         _ => Point::read(key),
-    };
-    keys.into_iter().map(point).collect()
+    }
 }
 
 /// Any payload, 0 often among them.

@@ -5,6 +5,7 @@ use reference::{Fed, Said};
 
 pub use super::feeder::Feeder;
 use super::feeder::CARRY;
+use super::record::limits;
 
 mistakes! {
     /// A mistake that one might make in feeding a log part by part (R47).
@@ -67,7 +68,7 @@ impl FeedMistake {
 
 /// What the page form with this mistake prints.
 pub fn lines(mistake: Option<FeedMistake>, input: &[u8], sizes: &[usize]) -> String {
-    let Some((limits, log)) = limits(input) else {
+    let Some((limits, log)) = limits(1_000, input) else {
         return "9\n".to_string();
     };
     let mut feeder = Feeder::new(mistake, limits, vec![0; CARRY]);
@@ -89,15 +90,6 @@ pub fn lines(mistake: Option<FeedMistake>, input: &[u8], sizes: &[usize]) -> Str
         }
     }
     text + &line(&feeder.feed(carried, &[], true))
-}
-
-/// N and Z if they are good, and the log.
-fn limits(input: &[u8]) -> Option<((u32, u32), &[u8])> {
-    let (head, log) = input.split_first_chunk::<8>()?;
-    let limits = u64::from_be_bytes(*head);
-    let (n, z) = ((limits >> 32) as u32, limits as u32);
-    let good = (1..=1_000).contains(&n) && (1..=4_096).contains(&z);
-    good.then_some(((n, z), log))
 }
 
 /// Does it say 7, 8 or 10?

@@ -14,6 +14,7 @@ pub(super) struct Entry {
 }
 
 /// The kept keys, in rising order, at a position.
+#[derive(Clone)]
 pub struct Pool {
     pub(super) n: usize,
     pub(super) z: u32,

@@ -2,8 +2,8 @@
 //!
 //! Without a mistake it is a third way to the same answers: it decides by the
 //! kept positions and in the conflict walk itself, where the reference scans
-//! the committed writes. Module `feed` is the page form in this way. Both are for
-//! tests only.
+//! the committed writes. Module `feed` is the page form in this way, module `reason`
+//! the reasons. All are for tests only.
 
 /// An enum of mistakes with their words.
 macro_rules! mistakes {
@@ -36,9 +36,11 @@ macro_rules! mistakes {
     };
 }
 
+mod explainer;
 pub mod feed;
 mod feeder;
 mod meld;
+pub mod reason;
 mod record;
 mod room;
 mod walk;

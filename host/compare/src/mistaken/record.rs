@@ -17,6 +17,15 @@ pub enum Next<'a> {
     Broken,
 }
 
+/// N and Z if they are good, with N up to `most`, and the log.
+pub fn limits(most: u32, input: &[u8]) -> Option<((u32, u32), &[u8])> {
+    let (head, log) = input.split_first_chunk::<8>()?;
+    let limits = u64::from_be_bytes(*head);
+    let (n, z) = ((limits >> 32) as u32, limits as u32);
+    let good = (1..=most).contains(&n) && (1..=4_096).contains(&z);
+    good.then_some(((n, z), log))
+}
+
 /// The part at the front of what is left of the log.
 pub fn next_part(mistake: Option<Mistake>, rest: &[u8]) -> Next<'_> {
     let has = |other| mistake == Some(other);
