@@ -2,12 +2,21 @@
 use asking::Number;
 use asking::decimal;
 use libc::STDERR_FILENO;
+ghost use Prim.Native.Nat.{_≤_};
 
-// What is asked, the number of the first of the two arguments that say it, and whether the answer is wanted in numbers.
+// What is asked: which arguments name the log and give the position, or name the pool and the record, and whether the answer is wanted in numbers.
 pub enum Question {
     Wrong,
-    Log { first: usize, numbers: bool },
-    Pool { first: usize, numbers: bool },
+    Log {
+        log: usize,
+        position: usize,
+        numbers: bool,
+    },
+    Pool {
+        pool: usize,
+        record: usize,
+        numbers: bool,
+    },
 }
 
 // Whether an argument is this word.
@@ -17,24 +26,36 @@ fn is_word(i: usize, word: &[u8]) -> bool {
     check::same(&text[..n], word)
 }
 
-// What the arguments ask.
-pub fn asked() -> Question {
-    let numbers = is_word(1, b"--numbers");
-    let mut first: usize = 1;
-    if numbers {
-        first = 2;
-    }
-    let pool = is_word(first, b"--pool");
-    if pool {
-        first += 1;
+// What the arguments from the first on ask.
+fn asked_from(first: usize, numbers: bool) -> Question
+    requires { ⌜ first ≤ 2 ⌝ }
+{
+    if is_word(first, b"--pool") {
+        if os::arg_count() != first + 3 {
+            return Question::Wrong;
+        }
+        return Question::Pool {
+            pool: first + 1,
+            record: first + 2,
+            numbers,
+        };
     }
     if os::arg_count() != first + 2 {
         return Question::Wrong;
     }
-    if pool {
-        return Question::Pool { first, numbers };
+    Question::Log {
+        log: first,
+        position: first + 1,
+        numbers,
     }
-    Question::Log { first, numbers }
+}
+
+// What the arguments ask.
+pub fn asked() -> Question {
+    if is_word(1, b"--numbers") {
+        return asked_from(2, true);
+    }
+    asked_from(1, false)
 }
 
 // Says how to ask.

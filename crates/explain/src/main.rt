@@ -25,14 +25,14 @@ const POOL: usize = 4194369;
 // The bytes of the largest record and one more.
 const RECORD: usize = 906;
 
-// Explains the record at a position of a log: the arguments from the first on.
-fn explain_log(pool: &mut [u8], first: usize, numbers: bool) {
-    let position = position_in(first + 1);
+// Explains the record at a position of a log, which these arguments give.
+fn explain_log(pool: &mut [u8], file: usize, place: usize, numbers: bool) {
+    let position = position_in(place);
     if position == 0 {
         return;
     }
     let mut path = io::buffer();
-    let n = os::arg(first, &mut path);
+    let n = os::arg(file, &mut path);
     let log = os::open_read(&path[..n]);
     if log < 0 {
         os::fail(&path[..n]);
@@ -45,7 +45,8 @@ fn explain_log(pool: &mut [u8], first: usize, numbers: bool) {
     }
 }
 
-// Reads a file into the bytes lent, and answers how many it has; more than are lent where it cannot be read, which is said.
+// Reads the file that an argument names into the bytes lent, and answers how many they hold; more than there are where it cannot be read, which is
+// said.
 fn load(i: usize, bytes: &mut [u8]) -> usize {
     let mut path = io::buffer();
     let n = os::arg(i, &mut path);
@@ -62,27 +63,40 @@ fn load(i: usize, bytes: &mut [u8]) -> usize {
     filled.held
 }
 
-// Explains a record's bytes to a pool's: the arguments from the first on.
-fn explain_pool(pool: &mut [u8], first: usize, numbers: bool) {
-    let held = load(first, pool);
+// Explains a record's bytes to a pool's, both in the files that these arguments name, and read into the bytes lent.
+fn explain_pool(pool: &mut [u8], bytes: &mut [u8], file: usize, other: usize, numbers: bool) {
+    let held = load(file, pool);
     if held > pool.len() {
         return;
     }
-    let mut record = [0u8; RECORD];
-    let bytes: &mut [u8] = &mut record;
-    let size = load(first + 1, bytes);
+    let size = load(other, bytes);
     if size > bytes.len() {
         return;
     }
-    print_told(tell(&pool[..held], &bytes[..size]), &bytes[..size], numbers);
+    let told = tell(&pool[..held], &bytes[..size]);
+    print_told(told, &bytes[..size], numbers);
+}
+
+// Answers what the arguments ask.
+fn answer(pool: &mut [u8]) {
+    let mut bytes = [0u8; RECORD];
+    let asked = asked();
+    match asked {
+        Question::Wrong => say_usage(),
+        Question::Log {
+            log,
+            position,
+            numbers,
+        } => explain_log(pool, log, position, numbers),
+        Question::Pool {
+            pool: file,
+            record,
+            numbers,
+        } => explain_pool(pool, &mut bytes, file, record, numbers),
+    }
 }
 
 fn main() {
     let mut pool = [0u8; POOL];
-    let asked = asked();
-    match asked {
-        Question::Wrong => say_usage(),
-        Question::Log { first, numbers } => explain_log(&mut pool, first, numbers),
-        Question::Pool { first, numbers } => explain_pool(&mut pool, first, numbers),
-    }
+    answer(&mut pool);
 }

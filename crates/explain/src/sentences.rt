@@ -23,7 +23,8 @@ pub fn say_number(number: u64) {
 
 // Prints an answer's name (R3).
 pub fn name(answer: Answer) {
-    match answer.number {
+    let number = answer.number;
+    match number {
         0 => say(b"committed"),
         1 => say(b"conflict"),
         2 => say(b"too old"),
@@ -52,7 +53,8 @@ fn say_touch(touch: Touch, what: Named) {
         Touch::Point(i) => {
             say(b"point ");
             say_number(i as u64);
-            match what.kind {
+            let kind = what.kind;
+            match kind {
                 1 => say(b" (read "),
                 2 => say(b" (put "),
                 _ => say(b" (delete "),
@@ -74,7 +76,8 @@ fn say_touch(touch: Touch, what: Named) {
 
 // Says of an answer that needs no reason what it means for a record at this snapshot.
 fn say_plain(answer: Answer, status: Status, snapshot: u32, bytes: &[u8]) {
-    match answer.number {
+    let number = answer.number;
+    match number {
         0 => {
             say(b"nothing that it names or scans was written after its snapshot ");
             say_number(snapshot as u64);
