@@ -4,4 +4,5 @@ pub mod Stepping
 pub mod Seeks
 pub mod Asks
 pub mod Lines
+pub mod Position
 pub mod Flawed

@@ -3,15 +3,16 @@
 -- Assumes nothing: these are definitions.
 use Prim.Native.Nat.{ℕ, _+_, _≤_}
 use mathlib.Core.Path.{_≡_}
-use mathlib.Core.Bool.{true, false}
+use mathlib.Core.Bool.{Bool, true, false}
 use mathlib.Core.Logic.{_⊎_}
 use mathlib.Core.List.{List, [], _++_}
-use lib.ListN.{take, drop}
+use lib.ListN.{length, take, drop}
 use Rattle.log.specs.declared.found.Cut.{Cut}
 use Rattle.log.specs.declared.found.Cut.the-variants.{Record}
+use Rattle.log.specs.Log.{CutIs, partOf}
 use Rattle.meld.specs.declared.melding.Melded.{Melded}
 use Rattle.meld.specs.Melds.{Melds}
-use Rattle.demands.specs.Runs.{isOver}
+use Rattle.demands.specs.Runs.{PoolAt, Whole, isOver}
 use Rattle.asking.specs.declared.window.Seen.{Seen}
 use Rattle.asking.specs.declared.telling.Told.{Told}
 use Rattle.asking.specs.declared.telling.Told.the-variants as Tolds
@@ -84,3 +85,24 @@ pub record Sought (before : ℕ) (m window m′ window′ : List ℕ) (told : To
 -- all that the reads have brought: the log
 abbrev pub logIn : {before : ℕ} {m window m′ window′ : List ℕ} {told : Told} → Sought before m window m′ window′ told → List ℕ
 logIn {window′ = window′} s = s .brought ++ broughtBy (s .held) window′ (s .last .seen)
+
+-- R52: a record was explained
+abbrev pub isRecord : Told → Bool
+isRecord Tolds.Unread = false
+isRecord (Tolds.Limits held n z) = false
+isRecord (Tolds.Over found records) = false
+isRecord (Tolds.Record status x) = true
+
+-- R52: the record that so many records of a log stand before, explained to the pool of a card that has melded these: the pool is the card's, a record
+-- stands at the place that the card has come to, and its bytes are what was explained
+pub record ExplainedAt (N Z : ℕ) (log : List ℕ) (before : ℕ) (m : List ℕ) (told : Told) : Type 0 where
+  pub pool : PoolAt N Z log before m
+  pub next : ℕ
+  pub found : CutIs log (pool .place) (Record next)
+  pub tells : Tells m (partOf (Record next) log (pool .place)) told
+
+-- R52: no record has the position: a card that has melded the whole log, so many records, and what stands behind the last
+pub record OverAt (N Z : ℕ) (log : List ℕ) (records : ℕ) (found : Cut) (m : List ℕ) : Type 0 where
+  pub answers : List Melded
+  pub whole : Whole N Z log answers found m
+  pub count : length answers ≡ records

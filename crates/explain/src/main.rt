@@ -12,6 +12,7 @@ use arguments::position_in;
 use arguments::say_usage;
 use asking::ask;
 use asking::tell;
+use libc::STDERR_FILENO;
 use printing::print_told;
 use record::limits::MAX_SIZE;
 use stream::fill;
@@ -25,6 +26,12 @@ const POOL: usize = 4194369;
 // The bytes of the largest record and one more.
 const RECORD: usize = 906;
 
+// Says what the system said of the file, right after a call that failed.
+fn say_failed(path: &[u8]) {
+    io::write_all(STDERR_FILENO, b"explain: ");
+    os::fail(path);
+}
+
 // Explains the record at a position of a log, which these arguments give.
 fn explain_log(pool: &mut [u8], file: usize, place: usize, numbers: bool) {
     let position = position_in(place);
@@ -35,13 +42,13 @@ fn explain_log(pool: &mut [u8], file: usize, place: usize, numbers: bool) {
     let n = os::arg(file, &mut path);
     let log = os::open_read(&path[..n]);
     if log < 0 {
-        os::fail(&path[..n]);
+        say_failed(&path[..n]);
         return;
     }
     let mut window = [0u8; MAX_SIZE];
     let told = ask(log, pool, &mut window, MOST_KEYS, position - 1);
     if !print_told(told, log::part(&window, 0), numbers) {
-        os::fail(&path[..n]);
+        say_failed(&path[..n]);
     }
 }
 
@@ -52,12 +59,12 @@ fn load(i: usize, bytes: &mut [u8]) -> usize {
     let n = os::arg(i, &mut path);
     let file = os::open_read(&path[..n]);
     if file < 0 {
-        os::fail(&path[..n]);
+        say_failed(&path[..n]);
         return bytes.len() + 1;
     }
     let filled = fill(file, bytes, 0);
     if filled.failed {
-        os::fail(&path[..n]);
+        say_failed(&path[..n]);
         return bytes.len() + 1;
     }
     filled.held

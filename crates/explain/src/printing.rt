@@ -91,30 +91,42 @@ fn print_limits(held: usize, n: u32, z: u32, in_numbers: bool) {
     say(b", and may be 1 to 4096\n");
 }
 
-// Prints that no record has the position: what stands behind the last, and how many records there are. That a log is over is said on standard error
-// where the answer is wanted in words.
-fn print_over(found: Cut, records: u32, in_numbers: bool) {
+// Prints behind which record the log is broken, so many records into it.
+fn print_broken(records: u32, in_numbers: bool) {
     if in_numbers {
-        print_ending(found);
+        print_ending(Cut::Broken);
         return;
     }
-    let Cut::End = found else {
-        print_first(b"log", 0, Answer::BROKEN_LOG);
-        if records == 0 {
-            say(b"no whole record stands at its start\n");
-            return;
-        }
-        say(b"behind record ");
-        say_number(records as u64);
-        say(b" stands no whole record\n");
+    print_first(b"log", 0, Answer::BROKEN_LOG);
+    if records == 0 {
+        say(b"no whole record stands at its start\n");
         return;
-    };
+    }
+    say(b"no whole record stands behind record ");
+    say_number(records as u64);
+    say(b"\n");
+}
+
+// Says on standard error that the log has only so many records; as numbers, that is `end`.
+fn print_end(records: u32, in_numbers: bool) {
+    if in_numbers {
+        print_ending(Cut::End);
+    }
     io::write_all(
         STDERR_FILENO,
-        b"explain: there is no such record; the log has ",
+        b"explain: no record has that position; the log ends behind ",
     );
     io::print_decimal(STDERR_FILENO, records as u64);
-    io::write_all(STDERR_FILENO, b"\n");
+    io::write_all(STDERR_FILENO, b" records\n");
+}
+
+// Prints that no record has the position: what stands behind the last, and how many records there are.
+fn print_over(found: Cut, records: u32, in_numbers: bool) {
+    let Cut::End = found else {
+        print_broken(records, in_numbers);
+        return;
+    };
+    print_end(records, in_numbers);
 }
 
 // Prints what was told of a record's bytes, and answers false where a read failed, of which nothing is printed.
