@@ -15,7 +15,7 @@ use Rattle.stream.specs.Buffer.{FilledUp}
 use Rattle.stream.specs.Turns.{Streamed}
 use Rattle.stream.specs.Runs.{Head, Runs, limits-unread, refused, melded}
 
-module _ (most : ℕ) (m head : List ℕ) (r : Filled) (f : FilledUp (replicate 8 0) head r) where
+module _ (most : ℕ) (m head : List ℕ) (r : Filled) (f : FilledUp 0 (replicate 8 0) head r) where
   -- the limits, read into eight bytes
   limits : Head head r
   limits = record { before = replicate 8 0; eight = refl; filled = f }

@@ -1,7 +1,7 @@
 -- What is told of a read's answer: one law for the function that tells it, one for the read.
 -- Assumes nothing.
 use Prim.Native.Nat.{ℕ, _+_, _-_, _≤_}
-use mathlib.Core.Path.{_≡_, refl, ap, _∙_}
+use mathlib.Core.Path.{_≡_, refl, sym, ap, _∙_}
 use mathlib.Core.Bool.{Bool, false}
 use mathlib.Core.List.{List}
 use native.Mathlib.Omega.{arith}
@@ -9,7 +9,7 @@ use lib.IntN.{ℤ, pos, negsuc}
 use lib.Signed.{ltZ}
 use borrow.Author.Tests.{le-ltb}
 use lib.ListN.{length, take, drop, length-drop}
-use lib.Seq.{length-take-le}
+use lib.Seq.{length-take-le, take-take}
 use Rattle.io.specs.Counts.{clamped}
 use Rattle.stream.specs.declared.input.Filled.{Filled}
 use Rattle.stream.specs.Buffer.{failedBy, filledBy, Refilled, Reads, none-yet, one-more, FilledUp, full, stopped}
@@ -52,34 +52,56 @@ refilled before after held got r inside long kept told =
     }
 
 -- reads one behind the other hold no more than there is room for
-pub record Held (before : List ℕ) (held : ℕ) (after : List ℕ) : Type 0 where
-  pub reads : Reads before held after
+pub record Held (held₀ : ℕ) (before : List ℕ) (held : ℕ) (after : List ℕ) : Type 0 where
+  pub reads : Reads held₀ before held after
   pub inside : held ≤ length after
   pub as-long : length after ≡ length before
 
 -- none at first
-pub held-none : (before : List ℕ) → Held before 0 before
-held-none before = record { reads = none-yet; inside = omega arith; as-long = refl }
+pub held-none : (held₀ : ℕ) (before : List ℕ) → held₀ ≤ length before → Held held₀ before held₀ before
+held-none held₀ before inside = record { reads = none-yet; inside = inside; as-long = refl }
 
-module _ (before : List ℕ) (held : ℕ) (after after′ : List ℕ) (r : Filled) (h : Held before held after) (k : Refilled held after after′ r) where
+module _ (held₀ : ℕ) (before : List ℕ) (held : ℕ) (after after′ : List ℕ) (r : Filled) (h : Held held₀ before held after) (k : Refilled held after after′ r) where
   -- one that brought something
-  pub held-more : (r .held ≡ held → ⊥) → Held before (r .held) after′
+  pub held-more : (r .held ≡ held → ⊥) → Held held₀ before (r .held) after′
   held-more some = record { reads = one-more (h .reads) k some; inside = k .most; as-long = k .as-long ∙ h .as-long }
 
   -- one that brought nothing
-  pub held-stops : r .held ≡ held → FilledUp before after′ r
+  pub held-stops : r .held ≡ held → FilledUp held₀ before after′ r
   held-stops none = stopped (h .reads) k none
 
 -- all are held
-pub held-all : (before : List ℕ) (held : ℕ) (after : List ℕ) → Held before held after → length after ≤ held
-    → FilledUp before after (record { held = held; failed = false })
-held-all before held after h all = full (h .reads) (omega (arith, all, h .as-long))
+pub held-all : (held₀ : ℕ) (before : List ℕ) (held : ℕ) (after : List ℕ) → Held held₀ before held after → length after ≤ held
+    → FilledUp held₀ before after (record { held = held; failed = false })
+held-all held₀ before held after h all = full (h .reads) (omega (arith, all, h .as-long))
 
--- never more bytes are held than were lent
-reads-inside : {before after : List ℕ} {held : ℕ} → Reads before held after → held ≤ length after
-reads-inside none-yet = omega arith
-reads-inside (one-more t k some) = k .most
+-- what reads one behind the other leave: no more bytes are held than were lent, and none less than at first, and those are as they were
+pub record Front (held₀ : ℕ) (before : List ℕ) (held : ℕ) (after : List ℕ) : Type 0 where
+  pub inside : held ≤ length after
+  pub as-long : length after ≡ length before
+  pub least : held₀ ≤ held
+  pub kept : take held₀ after ≡ take held₀ before
 
-pub filled-inside : (before after : List ℕ) (r : Filled) → FilledUp before after r → r .held ≤ length after
-filled-inside before after r (full t all) = reads-inside t
-filled-inside before after r (stopped t k none) = k .most
+-- the first bytes of the bytes kept are kept
+pub fewer-kept : (k n : ℕ) (after before : List ℕ) → k ≤ n → take n after ≡ take n before → take k after ≡ take k before
+fewer-kept k n after before h e = sym (take-take k n after h) ∙ ap (take k) e ∙ take-take k n before h
+
+-- one read more
+front-on : {held₀ held : ℕ} {before after after′ : List ℕ} {r : Filled} → Front held₀ before held after → Refilled held after after′ r
+    → Front held₀ before (r .held) after′
+front-on {held₀ = held₀} {held = held} {after = after} {after′ = after′} f k =
+    record {
+      inside = k .most;
+      as-long = k .as-long ∙ f .as-long;
+      least = omega (arith, f .least, k .least);
+      kept = fewer-kept held₀ held after′ after (f .least) (k .kept) ∙ f .kept;
+    }
+
+reads-front : {held₀ held : ℕ} {before after : List ℕ} → held₀ ≤ length before → Reads held₀ before held after → Front held₀ before held after
+reads-front h none-yet = record { inside = h; as-long = refl; least = omega arith; kept = refl }
+reads-front h (one-more t k some) = front-on (reads-front h t) k
+
+-- and of a buffer filled up
+pub filled-front : (held₀ : ℕ) (before after : List ℕ) (r : Filled) → held₀ ≤ length before → FilledUp held₀ before after r → Front held₀ before (r .held) after
+filled-front held₀ before after r h (full t all) = reads-front h t
+filled-front held₀ before after r h (stopped t k none) = front-on (reads-front h t) k

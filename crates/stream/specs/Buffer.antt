@@ -1,4 +1,4 @@
--- Reading from standard input: bytes are read behind those held (R41).
+-- Reading from a descriptor: bytes are read behind those held (R41, R52).
 -- What a read brings is not said: no definition can speak of a program's input. What is made of the number that it answers is said.
 -- Assumes nothing: these are definitions.
 use Prim.Native.Nat.{ℕ, _+_, _-_, _≤_}
@@ -28,14 +28,15 @@ pub record Refilled (held : ℕ) (before after : List ℕ) (r : Filled) : Type 0
   pub least : held ≤ r .held
   pub most : r .held ≤ length after
 
--- reads one behind the other, each of which brought something: how many bytes are held by now
-pub data Reads (before : List ℕ) : ℕ → List ℕ → Type 0 where
-  none-yet : Reads before 0 before
+-- reads one behind the other, from some bytes held on, each of which brought something: how many bytes are held by now
+pub data Reads (held₀ : ℕ) (before : List ℕ) : ℕ → List ℕ → Type 0 where
+  none-yet : Reads held₀ before held₀ before
   one-more : {held : ℕ} {after after′ : List ℕ} {r : Filled}
-      → Reads before held after → Refilled held after after′ r → (r .held ≡ held → ⊥) → Reads before (r .held) after′
+      → Reads held₀ before held after → Refilled held after after′ r → (r .held ≡ held → ⊥) → Reads held₀ before (r .held) after′
 
 -- reads until all bytes are held, and then none has failed; or until a read brought nothing, and then what is told of that read is told
-pub data FilledUp (before : List ℕ) : List ℕ → Filled → Type 0 where
-  full : {after : List ℕ} {held : ℕ} → Reads before held after → length before ≤ held → FilledUp before after (record { held = held; failed = false })
+pub data FilledUp (held₀ : ℕ) (before : List ℕ) : List ℕ → Filled → Type 0 where
+  full : {after : List ℕ} {held : ℕ}
+      → Reads held₀ before held after → length before ≤ held → FilledUp held₀ before after (record { held = held; failed = false })
   stopped : {held : ℕ} {after after′ : List ℕ} {r : Filled}
-      → Reads before held after → Refilled held after after′ r → r .held ≡ held → FilledUp before after′ r
+      → Reads held₀ before held after → Refilled held after after′ r → r .held ≡ held → FilledUp held₀ before after′ r

@@ -18,7 +18,7 @@ use Rattle.stream.specs.Turns.{Streamed}
 pub record Head (head : List ℕ) (r : Filled) : Type 0 where
   pub before : List ℕ
   pub eight : length before ≡ 8
-  pub filled : FilledUp before head r
+  pub filled : FilledUp 0 before head r
 
 -- what a run with a largest N makes of the bytes lent m, and how it ends. Where a read of the limits fails, no byte changes and that is
 -- told. Else the pool that they ask for is made; an answer other than 0 to that ends the run. Else the log is melded into the pool

@@ -1,5 +1,4 @@
-// Reading from standard input into lent bytes.
-use libc::STDIN_FILENO;
+// Reading from a descriptor into lent bytes.
 ghost use mathlib.Core.Path.{_≡_};
 ghost use Prim.Native.Nat.{_≤_};
 ghost use lib.ListN.{length};
@@ -24,21 +23,23 @@ fn told(got: isize, buffer: &[u8], held: usize) -> Filled
 
 // Reads once behind the bytes held at the front of the buffer, and answers how many are held then: as many as before at the end of the
 // input, where the buffer is full, and where the read fails, which alone is told as failed.
-pub fn refill(buffer: &mut [u8], held: usize) -> Filled
+pub fn refill(input: i32, buffer: &mut [u8], held: usize) -> Filled
     requires { ⌜ held ≤ length (now buffer) ⌝ }
     ensures { λ r. ⌜ Refilled held (now (buffer .entry)) (now (buffer .exit)) r ⌝ }
 {
-    let got = libc::read(STDIN_FILENO, &mut buffer[held..]);
+    let got = libc::read(input, &mut buffer[held..]);
     told(got, buffer, held)
 }
 
-// Reads until the bytes lent are full or a read brings nothing, and answers how many are held then and whether that read failed.
-pub fn fill(buffer: &mut [u8]) -> Filled
-    ensures { λ r. ⌜ FilledUp (now (buffer .entry)) (now (buffer .exit)) r ⌝ }
+// Reads behind the bytes held until the buffer is full or a read brings nothing, and answers how many are held then and whether that read
+// failed.
+pub fn fill(input: i32, buffer: &mut [u8], held: usize) -> Filled
+    requires { ⌜ held ≤ length (now buffer) ⌝ }
+    ensures { λ r. ⌜ FilledUp held (now (buffer .entry)) (now (buffer .exit)) r ⌝ }
 {
-    let mut held = 0;
+    let mut held = held;
     while held < buffer.len() {
-        let filled = refill(buffer, held);
+        let filled = refill(input, buffer, held);
         if filled.held == held {
             return filled;
         }

@@ -2,6 +2,7 @@
 use crate::closing::Ending;
 use crate::input::fill;
 use crate::turns::meld_through;
+use libc::STDIN_FILENO;
 use lines::HEAD;
 use lines::open;
 use record::Answer;
@@ -14,7 +15,7 @@ pub fn meld_input(pool: &mut [u8], most: u32) -> Ending
     ensures { λ r. ⌜ Runs most (now (pool .entry)) (now (pool .exit)) r ⌝ }
 {
     let mut head = [0u8; HEAD];
-    let limits = fill(&mut head);
+    let limits = fill(STDIN_FILENO, &mut head, 0);
     if limits.failed {
         return Ending::Unread;
     }

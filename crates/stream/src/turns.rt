@@ -1,6 +1,7 @@
 // The log on standard input, fed page by page: a page is what one read brings.
 use crate::closing::Ending;
 use crate::input::refill;
+use libc::STDIN_FILENO;
 use lines::feed_part;
 use lines::finish;
 use log::Cut;
@@ -37,7 +38,7 @@ fn read_on(
 ) -> Progress
     ensures { λ r. ⌜ TurnIs carried position (now (pool .entry)) (now (carry .entry)) (now (page .entry)) (now (pool .exit)) (now (carry .exit)) (now (page .exit)) r ⌝ }
 {
-    let read = refill(page, 0);
+    let read = refill(STDIN_FILENO, page, 0);
     let held = read.held;
     let going = feed_part(pool, carry, carried, &page[..held], position);
     let stopped = going.stopped;

@@ -6,7 +6,7 @@ use native.Mathlib.Omega.{arith}
 use borrow.Author.Needs.{needs}
 use lib.ListN.{length-replicate}
 use lib.Seq.{length-take-le}
-use Rattle.stream.proofs.Telling.{filled-inside}
+use Rattle.stream.proofs.Telling.{filled-front}
 use Rattle.stream.proofs.Running.{ends-unread, ends-refused, ends-melded}
 use Rattle.stream.proofs.program.meld_input.Statement.{statement}
 use Rattle.stream.proofs.program.meld_input.Tie as tie
@@ -21,10 +21,10 @@ returns : tie.Need-returns
 returns c = ends-unread _ _ _ _ (c .before .before .fill .ensures) (search needs)
 
 array-share-prefix-head : tie.Need-array-share-prefix-head
-array-share-prefix-head c = omega (arith, filled-inside _ _ _ (c .before .before .before .fill .ensures))
+array-share-prefix-head c = omega (arith, filled-front _ _ _ _ (omega arith) (c .before .before .before .fill .ensures) .inside)
 
 slice-aggregate-open : tie.Need-slice-aggregate-open
-slice-aggregate-open c = sym (length-take-le _ _ (omega (arith, filled-inside _ _ _ (c .before .before .before .before .fill .ensures))))
+slice-aggregate-open c = sym (length-take-le _ _ (omega (arith, filled-front _ _ _ _ (omega arith) (c .before .before .before .before .fill .ensures) .inside)))
 
 open-requires : tie.Need-open-requires
 open-requires c κs = search needs

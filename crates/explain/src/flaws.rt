@@ -1,0 +1,46 @@
+// What is wrong with a malformed record, in a sentence.
+use crate::sentences::say;
+use crate::sentences::say_number;
+use asking::Flaw;
+use asking::Wrong;
+
+// Says a number between two texts.
+fn say_with(before: &[u8], number: u32, behind: &[u8]) {
+    say(before);
+    say_number(number as u64);
+    say(behind);
+}
+
+// Says what is wrong with so many bytes.
+pub fn say_flaw(flaw: Flaw, size: usize) {
+    let wrong = flaw.wrong;
+    let number = flaw.number;
+    say(b"at byte ");
+    say_number(flaw.at as u64);
+    match wrong {
+        Wrong::Nothing => say(b": nothing is wrong\n"),
+        Wrong::Short => say(b" it ends, and the smallest record has 9 bytes\n"),
+        Wrong::Length => {
+            say_with(
+                b": the length says that ",
+                number,
+                b" bytes follow its two; with these there are ",
+            );
+            say_number(size as u64);
+            say(b"\n");
+        }
+        Wrong::Version => say_with(b": version ", number, b", and there is only 1\n"),
+        Wrong::Points => say_with(b": ", number, b" points, and there may be 64\n"),
+        Wrong::Scans => say_with(b": ", number, b" scans, and there may be 8\n"),
+        Wrong::Kind => say_with(b": there is no kind ", number, b" of points\n"),
+        Wrong::Key => say_with(b": key ", number, b" is not above the key before it\n"),
+        Wrong::Low => say_with(
+            b": a scan from ",
+            number,
+            b" does not begin above the scan before it\n",
+        ),
+        Wrong::High => say_with(b": a scan ends at ", number, b", below where it begins\n"),
+        Wrong::Torn => say(b": the record ends within this point or scan\n"),
+        Wrong::Rest => say(b": there are bytes behind its last point or scan\n"),
+    }
+}
