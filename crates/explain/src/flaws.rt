@@ -19,12 +19,12 @@ pub fn say_flaw(flaw: Flaw, size: usize) {
     say_number(flaw.at as u64);
     match wrong {
         Wrong::Nothing => say(b": nothing is wrong\n"),
-        Wrong::Short => say(b" it ends, and the smallest record has 9 bytes\n"),
+        Wrong::Short => say(b": the record ends, and the smallest has 9 bytes\n"),
         Wrong::Length => {
             say_with(
-                b": the length says that ",
+                b": the length says ",
                 number,
-                b" bytes follow its two; with these there are ",
+                b", and with its own two bytes there are ",
             );
             say_number(size as u64);
             say(b"\n");

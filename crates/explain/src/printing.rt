@@ -114,10 +114,10 @@ fn print_end(records: u32, in_numbers: bool) {
     }
     io::write_all(
         STDERR_FILENO,
-        b"explain: no record has that position; the log ends behind ",
+        b"explain: no record has that position; records in the log: ",
     );
     io::print_decimal(STDERR_FILENO, records as u64);
-    io::write_all(STDERR_FILENO, b" records\n");
+    io::write_all(STDERR_FILENO, b"\n");
 }
 
 // Prints that no record has the position: what stands behind the last, and how many records there are.
