@@ -2,9 +2,6 @@
 // record's bytes and a pool's; in front of either stands `--numbers` where one line of numbers is wanted. The answer goes to standard output. What is
 // wrong with the question goes to standard error, in words, and then nothing goes to standard output.
 mod arguments;
-mod flaws;
-mod printing;
-mod sentences;
 
 use arguments::Question;
 use arguments::asked;
@@ -13,8 +10,8 @@ use arguments::say_usage;
 use asking::ask;
 use asking::tell;
 use libc::STDERR_FILENO;
-use printing::print_told;
 use record::limits::MAX_SIZE;
+use sentences::print_told;
 use stream::fill;
 
 // The largest N.

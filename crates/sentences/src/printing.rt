@@ -1,4 +1,4 @@
-// What is printed: the answer in words, or one line of numbers. Each function prints what it is given, and nothing else.
+// What is printed: the answer in words, or one line of numbers.
 use crate::sentences::name;
 use crate::sentences::say;
 use crate::sentences::say_number;
