@@ -7,12 +7,17 @@ use arguments::Question;
 use arguments::asked;
 use arguments::position_in;
 use arguments::say_usage;
+use asking::Told;
 use asking::ask;
 use asking::tell;
 use libc::STDERR_FILENO;
 use record::limits::MAX_SIZE;
 use sentences::print_told;
 use stream::fill;
+ghost use Prim.Native.Nat.{_≤_};
+ghost use lib.ListN.{length};
+ghost use Rattle.lines.specs.Opening.{sizeFor};
+ghost use Rattle.explain.specs.Program.{largestN, ProgramAsks};
 
 // The largest N.
 const MOST_KEYS: u32 = 65536;
@@ -23,6 +28,14 @@ const POOL: usize = 4194369;
 // The bytes of the largest record and one more.
 const RECORD: usize = 906;
 
+// Asks for the record that so many records stand before, with bytes for a pool that are enough for the largest N.
+fn ask_log(log: i32, pool: &mut [u8], window: &mut [u8], before: u32) -> Told
+    requires { ⌜ sizeFor largestN ≤ length (now pool) ⌝ }
+    ensures { λ r. ⌜ ProgramAsks before (now (pool .entry)) (now (window .entry)) (now (pool .exit)) (now (window .exit)) r ⌝ }
+{
+    ask(log, pool, window, MOST_KEYS, before)
+}
+
 // Says what the system said of the file, right after a call that failed.
 fn say_failed(path: &[u8]) {
     io::write_all(STDERR_FILENO, b"explain: ");
@@ -30,7 +43,9 @@ fn say_failed(path: &[u8]) {
 }
 
 // Explains the record at a position of a log, which these arguments give.
-fn explain_log(pool: &mut [u8], file: usize, place: usize, numbers: bool) {
+fn explain_log(pool: &mut [u8], file: usize, place: usize, numbers: bool)
+    requires { ⌜ sizeFor largestN ≤ length (now pool) ⌝ }
+{
     let position = position_in(place);
     if position == 0 {
         return;
@@ -43,7 +58,7 @@ fn explain_log(pool: &mut [u8], file: usize, place: usize, numbers: bool) {
         return;
     }
     let mut window = [0u8; MAX_SIZE];
-    let told = ask(log, pool, &mut window, MOST_KEYS, position - 1);
+    let told = ask_log(log, pool, &mut window, position - 1);
     if !print_told(told, log::part(&window, 0), numbers) {
         say_failed(&path[..n]);
     }
@@ -82,7 +97,9 @@ fn explain_pool(pool: &mut [u8], bytes: &mut [u8], file: usize, other: usize, nu
 }
 
 // Answers what the arguments ask.
-fn answer(pool: &mut [u8]) {
+fn answer(pool: &mut [u8])
+    requires { ⌜ sizeFor largestN ≤ length (now pool) ⌝ }
+{
     let mut bytes = [0u8; RECORD];
     let asked = asked();
     match asked {
