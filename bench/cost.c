@@ -7,7 +7,8 @@
      cost library|plain CALL N KEYS POINTS FILE [skip|stack|compare]
    CALL is look (lookup of an absent key), status, or a meld of POINTS points: kept (puts of kept keys), new (puts of other keys), read (reads of kept keys),
    old (reads of other keys, with half the position as snapshot), scans (POINTS scans between neighbouring kept keys, the same snapshot), fullest (64
-   reads and 8 scans of the 72 numbers, with the position before their combs as snapshot). The others have the position as snapshot. Three calls feed the
+   reads and 8 scans of the 72 numbers, with the position before their combs as snapshot), lost (reads of kept keys, with half the position), late (the same,
+   with 0). The others have the position as snapshot. With why- before it the record of such a call is explained and not melded. Three calls feed the
    record of kept: fed (all of it in the part, and nothing carried), begun (its first byte carried, the others in the part), more (all of it but its last
    byte in the part, so that none is decided). With skip the call is left out; with stack the bytes of stack it used are printed; with compare both are
    called, and their answers, looks, numbers and bytes have to be the same. The status is the call's answer, or one of those below. */
@@ -142,14 +143,30 @@ static uint64_t prepare(const char *call, uint32_t points, uint8_t *record) {
     }
     if (!strcmp(call, "scans"))
         return record_of(record, p / 2, some, 0, EMUPARASOL_KIND_READ, beside.lows, beside.highs, points);
-    bool other = !strcmp(call, "new") || !strcmp(call, "old"), reads = !strcmp(call, "read") || !strcmp(call, "old");
+    bool other = !strcmp(call, "new") || !strcmp(call, "old"), half = !strcmp(call, "old") || !strcmp(call, "lost"), none = !strcmp(call, "late");
+    bool reads = half || none || !strcmp(call, "read");
     for (uint32_t i = 0; i < points; i++)
         some[i] = other ? key_of(keys + 1 + 977 * i) : key_of((uint32_t)((uint64_t)keys * i / points));
-    return record_of(record, strcmp(call, "old") ? p : p / 2, some, points, reads ? EMUPARASOL_KIND_READ : EMUPARASOL_KIND_PUT, &n, &n, 0);
+    return record_of(record, none ? 0 : half ? p / 2 : p, some, points, reads ? EMUPARASOL_KIND_READ : EMUPARASOL_KIND_PUT, &n, &n, 0);
 }
 
+/* The call whose record is explained, or NULL where none is. */
+static const char *behind_why(const char *call) {
+    const char *why = "why-";
+    for (; *why != '\0'; why++, call++)
+        if (*call != *why)
+            return NULL;
+    return call;
+}
+
+/* What explain tells besides the looks. */
+static struct {
+    uint64_t point, scan;
+    uint32_t key, position, lag, keys;
+} why;
+
 /* What feed is lent besides the pool, and what it tells. */
-enum call { LOOK, STATUS, MELD, FED, BEGUN, MORE };
+enum call { LOOK, STATUS, MELD, EXPLAIN, FED, BEGUN, MORE };
 static struct {
     uint8_t carry[EMUPARASOL_CARRY_BYTES], happened;
     uint64_t carried, part, taken;
@@ -172,6 +189,9 @@ static uint8_t make_call(bool plain, enum call call, const uint8_t *record, uint
         return (plain ? plain_status : emuparasol_status)(pool, length, &limit, &zone, &position, &kept, looks);
     if (call == MELD)
         return (plain ? plain_meld : emuparasol_meld)(pool, length, record, size, looks);
+    if (call == EXPLAIN)
+        return (plain ? plain_explain : emuparasol_explain)(pool, length, record, size, looks, &why.key, &why.position, &why.point, &why.scan, &why.lag,
+                                                            &why.keys);
     return (plain ? plain_feed : emuparasol_feed)(pool, length, fed.carry, sizeof fed.carry, &fed.carried, record + fed.carried, fed.part, false,
                                                   &fed.happened, looks, &fed.taken);
 }
@@ -206,13 +226,15 @@ int main(int argc, char **argv) {
         return MISUSED;
     fclose(f);
     uint8_t record[EMUPARASOL_MOST_RECORD];
+    const char *melded = behind_why(call);
     enum call which = !strcmp(call, "look")     ? LOOK
                       : !strcmp(call, "status") ? STATUS
                       : !strcmp(call, "fed")    ? FED
                       : !strcmp(call, "begun")  ? BEGUN
                       : !strcmp(call, "more")   ? MORE
+                      : melded != NULL          ? EXPLAIN
                                                 : MELD;
-    uint64_t size = which == LOOK || which == STATUS ? 0 : prepare(call, third, record);
+    uint64_t size = which == LOOK || which == STATUS ? 0 : prepare(which == EXPLAIN ? melded : call, third, record);
     uint32_t looks = 0;
     uint8_t answer = EMUPARASOL_COMMITTED;
     if (which >= FED)
@@ -228,13 +250,15 @@ int main(int argc, char **argv) {
         uint32_t other_looks = 0;
         memcpy(once, pool, length);
         answer = make_call(false, which, record, size, &looks);
-        uint8_t *after = pool, told[sizeof fed];
+        uint8_t *after = pool, told[sizeof fed], reason[sizeof why];
         pool = once;
         memcpy(told, &fed, sizeof fed);
+        memcpy(reason, &why, sizeof why);
+        memset(&why, 0, sizeof why);
         if (which >= FED)
             lend(which, record, size);
         if (make_call(true, which, record, size, &other_looks) != answer || other_looks != looks || memcmp(after, once, length) != 0 ||
-            memcmp(told, &fed, sizeof fed) != 0)
+            memcmp(told, &fed, sizeof fed) != 0 || memcmp(reason, &why, sizeof why) != 0)
             return DIFFERENT;
         printf("answer %u, %s %u, kept %u\n", answer, which == STATUS ? "tombstones" : "looks", looks, word_at(pool + 16));
     }

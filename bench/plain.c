@@ -316,6 +316,7 @@ struct walk {
     const struct record *record;
     int point, scan;
     uint32_t looks;
+    const uint8_t *found; /* the leaf in conflict */
 };
 
 static bool conflict(struct walk *w, uint32_t i) {
@@ -332,7 +333,11 @@ static bool conflict(struct walk *w, uint32_t i) {
         w->scan++;
     if (!(w->point < r->points && r->keys[w->point] < to) && !(w->scan < r->scans && r->lows[w->scan] < to))
         return false;
-    return height == 0 || conflict(w, get(n + LEFT)) || conflict(w, get(n + RIGHT));
+    if (height == 0) {
+        w->found = n;
+        return true;
+    }
+    return conflict(w, get(n + LEFT)) || conflict(w, get(n + RIGHT));
 }
 
 uint8_t plain_refresh(const uint8_t *pool, uint64_t pool_length, const uint8_t *original, uint64_t original_length, uint8_t *output,
@@ -347,7 +352,7 @@ uint8_t plain_refresh(const uint8_t *pool, uint64_t pool_length, const uint8_t *
         return EMUPARASOL_AHEAD;
     if (p - r.snapshot > get(pool + ZONE))
         return EMUPARASOL_TOO_OLD;
-    struct walk w = {pool, &r, 0, 0, 0};
+    struct walk w = {pool, &r, 0, 0, 0, NULL};
     if (get(pool + ROOT) != NONE && conflict(&w, get(pool + ROOT)))
         return EMUPARASOL_CONFLICT;
     if (output_length < original_length)
@@ -462,10 +467,10 @@ static void put(uint8_t *pool, uint32_t key, uint32_t v, uint64_t payload, uint3
         mend(pool, path[--depth]);
 }
 
-/* Whether there is room for what a record writes. */
+/* Whether there is room for what a record writes; where old tombstones have to go for it, how many keys are counted then. */
 enum room { ENOUGH, AFTER_A_DROP, TOO_LITTLE };
 
-static enum room room_for(const uint8_t *pool, const struct record *r, uint32_t limit) {
+static enum room room_for(const uint8_t *pool, const struct record *r, uint32_t limit, uint32_t *counted) {
     uint32_t n = get(pool + LIMIT), kept = get(pool + KEPT), absent = 0, revived = 0;
     if (kept + (uint32_t)r->points <= n)
         return ENOUGH;
@@ -478,8 +483,12 @@ static enum room room_for(const uint8_t *pool, const struct record *r, uint32_t 
     }
     if (kept + absent <= n)
         return ENOUGH;
-    return kept + absent + revived - (kept > 0 ? count_old(pool, get(pool + ROOT), limit) : 0) <= n ? AFTER_A_DROP : TOO_LITTLE;
+    *counted = kept + absent + revived - (kept > 0 ? count_old(pool, get(pool + ROOT), limit) : 0);
+    return *counted <= n ? AFTER_A_DROP : TOO_LITTLE;
 }
+
+/* The last position whose tombstones a record at v drops; 0 if it drops none. */
+static inline uint32_t dropped_to(uint32_t v, uint32_t zone) { return zone <= v ? v - zone : 0; }
 
 /* Melds into a pool that is fit. */
 static uint8_t meld_fit(uint8_t *pool, const uint8_t *record, uint64_t record_length, uint32_t *looks) {
@@ -495,13 +504,13 @@ static uint8_t meld_fit(uint8_t *pool, const uint8_t *record, uint64_t record_le
         return EMUPARASOL_AHEAD;
     if (p - r.snapshot > zone)
         return EMUPARASOL_TOO_OLD;
-    struct walk w = {pool, &r, 0, 0, 0};
+    struct walk w = {pool, &r, 0, 0, 0, NULL};
     bool found = get(pool + ROOT) != NONE && conflict(&w, get(pool + ROOT));
     *looks = w.looks;
     if (found)
         return EMUPARASOL_CONFLICT;
-    uint32_t limit = zone <= v ? v - zone : 0;
-    enum room room = room_for(pool, &r, limit);
+    uint32_t limit = dropped_to(v, zone), counted;
+    enum room room = room_for(pool, &r, limit, &counted);
     if (room == TOO_LITTLE)
         return EMUPARASOL_NO_ROOM;
     if (room == AFTER_A_DROP) {
@@ -519,6 +528,42 @@ static uint8_t meld_fit(uint8_t *pool, const uint8_t *record, uint64_t record_le
 uint8_t plain_meld(uint8_t *pool, uint64_t pool_length, const uint8_t *record, uint64_t record_length, uint32_t *looks) {
     *looks = 0;
     return fits(pool, pool_length) ? meld_fit(pool, record, record_length, looks) : (uint8_t)EMUPARASOL_UNFIT_POOL;
+}
+
+uint8_t plain_explain(const uint8_t *pool, uint64_t pool_length, const uint8_t *record, uint64_t record_length, uint32_t *looks, uint32_t *key,
+                      uint32_t *position, uint64_t *point, uint64_t *scan, uint32_t *lag, uint32_t *keys) {
+    struct record r;
+    *looks = *key = *position = *lag = *keys = 0;
+    *point = *scan = 0;
+    if (!fits(pool, pool_length))
+        return EMUPARASOL_UNFIT_POOL;
+    uint32_t p = get(pool + POSITION), zone = get(pool + ZONE), counted;
+    if (p == NONE)
+        return EMUPARASOL_POSITIONS_USED_UP;
+    if (!parse(record, record_length, &r))
+        return EMUPARASOL_MALFORMED;
+    if (r.snapshot > p)
+        return EMUPARASOL_AHEAD;
+    if (p - r.snapshot > zone) {
+        *lag = p - r.snapshot;
+        return EMUPARASOL_TOO_OLD;
+    }
+    struct walk w = {pool, &r, 0, 0, 0, NULL};
+    bool found = get(pool + ROOT) != NONE && conflict(&w, get(pool + ROOT));
+    *looks = w.looks;
+    if (found) {
+        *key = get(w.found + LOW);
+        *position = get(w.found + NEWEST);
+        if (w.point < r.points && r.keys[w.point] == *key)
+            *point = 1 + (uint64_t)w.point;
+        else
+            *scan = 1 + (uint64_t)w.scan;
+        return EMUPARASOL_CONFLICT;
+    }
+    if (room_for(pool, &r, dropped_to(p + 1, zone), &counted) != TOO_LITTLE)
+        return EMUPARASOL_COMMITTED;
+    *keys = counted;
+    return EMUPARASOL_NO_ROOM;
 }
 
 /* The two bytes of a record's length, one of which may lie in the carry. */

@@ -11,6 +11,8 @@ uint8_t plain_lookup(const uint8_t *pool, uint64_t pool_length, uint32_t key, ui
 uint8_t plain_meld(uint8_t *pool, uint64_t pool_length, const uint8_t *record, uint64_t record_length, uint32_t *looks);
 uint8_t plain_feed(uint8_t *pool, uint64_t pool_length, uint8_t *carry, uint64_t carry_length, uint64_t *carried, const uint8_t *part,
                    uint64_t part_length, bool over, uint8_t *happened, uint32_t *looks, uint64_t *taken);
+uint8_t plain_explain(const uint8_t *pool, uint64_t pool_length, const uint8_t *record, uint64_t record_length, uint32_t *looks, uint32_t *key,
+                      uint32_t *position, uint64_t *point, uint64_t *scan, uint32_t *lag, uint32_t *keys);
 uint8_t plain_refresh(const uint8_t *pool, uint64_t pool_length, const uint8_t *original, uint64_t original_length, uint8_t *output,
                       uint64_t output_length);
 bool plain_in_force(uint8_t answer, const uint8_t *original, uint64_t original_length, const uint8_t *refreshed, uint64_t refreshed_length,

@@ -82,6 +82,7 @@ int main(void) {
     before = 0;
     printf("  left caught up: %u\n", (unsigned)card_catch_up(&left));
     before = 0;
-    printf("  right caught up: %u, pools %s, key 9 is %lu\n", (unsigned)card_catch_up(&right), stage_pools(), stage_payload(&left, 9));
+    uint8_t answer = card_catch_up(&right);
+    printf("  right caught up: %u, pools %s, key 9 is %lu\n", (unsigned)answer, stage_pools(), stage_payload(&left, 9));
     return 0;
 }

@@ -122,6 +122,18 @@ uint8_t emuparasol_meld(uint8_t *pool, uint64_t pool_length, const uint8_t *reco
 uint8_t emuparasol_feed(uint8_t *pool, uint64_t pool_length, uint8_t *carry, uint64_t carry_length, uint64_t *carried, const uint8_t *part,
                         uint64_t part_length, bool over, uint8_t *happened, uint32_t *looks, uint64_t *taken);
 
+/* Says why a record gets its answer: who beat it, how far it lags, or how many keys would have to find room. Answers what emuparasol_meld would answer
+   now for this pool and this record, the first that applies of 7, 6, 4, 5, 2, 1, 3 and 0, and *looks is what it would set. Pool and record are only
+   read. All seven numbers are always set; the six behind *looks are 0 but for these:
+   - 1: *key is the smallest key in conflict: kept, named or scanned by the record, and written since its snapshot. *position is the position of its last
+     write, 1 or more: the record at that position wrote it. Of *point and *scan exactly one is above 0: *point is the number of the record's point with
+     that key, or, if it has none, *scan the number of its scan that covers the key. The first point is number 1, and so is the first scan.
+   - 2: *lag is how many positions back the snapshot lies, which is more than Z.
+   - 3: *keys is how many keys would have to be kept, which is more than N: those that are live, those with a tombstone that is too young to be dropped,
+     and those that the record writes, each once. */
+uint8_t emuparasol_explain(const uint8_t *pool, uint64_t pool_length, const uint8_t *record, uint64_t record_length, uint32_t *looks, uint32_t *key,
+                           uint32_t *position, uint64_t *point, uint64_t *scan, uint32_t *lag, uint32_t *keys);
+
 /* Brings a record that has waited up to the pool's position: the first that applies of 7, 4, 5, 2, 1, 8 and 0. On 0 the front of the output is the
    same record with the pool's position as its snapshot, and the rest of the output is as before; on any other answer all of it is. The room needed
    is original_length. */

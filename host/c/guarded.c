@@ -2,7 +2,7 @@
      guarded [SECONDS [SEED]]
    What is lent stands at the very end or the very start of a mapped area, with unmapped pages around it; what is lent to be read is lent through a
    mapping that cannot be written; what has no elements is often lent as NULL. Pools and records are made at random, whole and damaged, logs are cut
-   anywhere, carries are lent as a call has left them and as none does, and all eleven functions are called. After each call the answer, every number and
+   anywhere, carries are lent as a call has left them and as none does, and all twelve functions are called. After each call the answer, every number and
    every byte of every area must be what plain C leaves. At the first difference, and at an access that is not allowed, the seed and the call are
    printed and the status is 1. The same seed makes the same calls. */
 #define _DEFAULT_SOURCE
@@ -20,7 +20,7 @@
 enum { PAGE = 65536, FILLED = 0xA5, MOST_N = 1000, POOL_ROOM = 64 + 64 * MOST_N + 256, RECORD_ROOM = 1200, LIST = 70, PAIRS = 10 };
 
 static uint64_t seed, calls, state;
-static unsigned long answers[16], happenings[4], completed;
+static unsigned long answers[16], happenings[4], completed, points_blamed, scans_blamed, lags_told, keys_told;
 static const char *doing = "";
 
 /* Random numbers (xorshift64*), below a limit. */
@@ -103,7 +103,7 @@ static void same(struct area *a, const void *bytes, const char *what) {
             fail("a byte behind what was lent was written");
 }
 
-static struct area pool_area, record_area, output_area, carry_area, carried_area, happened_area, kinds_area, keys_area, payloads_area, lows_area, highs_area, number_areas[5];
+static struct area pool_area, record_area, output_area, carry_area, carried_area, happened_area, kinds_area, keys_area, payloads_area, lows_area, highs_area, number_areas[7];
 
 /* A number lent to be written; what it is before must not matter. */
 static void *number(int which, size_t bytes) {
@@ -273,6 +273,34 @@ static void try_meld(uint8_t *bytes, uint64_t length) {
     told(0, &looks, "the looks differ");
     same(&pool_area, bytes, "the pools differ");
     same(&record_area, record, "the record was written");
+}
+
+static void try_explain(uint8_t *bytes, uint64_t length) {
+    static uint8_t record[RECORD_ROOM];
+    uint32_t looks, blamed, position, lag, keys;
+    uint64_t point, scan, size = make_record(record);
+    doing = "explain";
+    place(&pool_area, bytes, length);
+    place(&record_area, record, size);
+    uint32_t *to_looks = number(0, 4), *to_key = number(1, 4), *to_position = number(2, 4);
+    uint64_t *to_point = number(3, 8), *to_scan = number(4, 8);
+    uint32_t *to_lag = number(5, 4), *to_keys = number(6, 4);
+    uint8_t answer = emuparasol_explain(shown(&pool_area), length, shown(&record_area), size, to_looks, to_key, to_position, to_point, to_scan, to_lag,
+                                        to_keys);
+    answered(answer, plain_explain(bytes, length, record, size, &looks, &blamed, &position, &point, &scan, &lag, &keys));
+    told(0, &looks, "the looks differ");
+    told(1, &blamed, "the keys in conflict differ");
+    told(2, &position, "the positions differ");
+    told(3, &point, "the numbers of the points differ");
+    told(4, &scan, "the numbers of the scans differ");
+    told(5, &lag, "the lags differ");
+    told(6, &keys, "the numbers of keys differ");
+    same(&pool_area, bytes, "the pool was written");
+    same(&record_area, record, "the record was written");
+    points_blamed += point > 0;
+    scans_blamed += scan > 0;
+    lags_told += lag > 0;
+    keys_told += keys > 0;
 }
 
 /* The log of this episode that feed has not taken yet, and what it carries, as plain C has it. */
@@ -465,6 +493,10 @@ static void try_nothing(void) {
     expected(emuparasol_status(NULL, 0, &p, &q, &r, &s, &t), EMUPARASOL_UNFIT_POOL);
     expected(emuparasol_lookup(NULL, 0, key(), &a, &p), EMUPARASOL_UNFIT_POOL);
     expected(emuparasol_meld(NULL, 0, NULL, 0, &p), EMUPARASOL_UNFIT_POOL);
+    expected(emuparasol_explain(NULL, 0, NULL, 0, &p, &q, &r, &a, &b, &s, &t), EMUPARASOL_UNFIT_POOL);
+    if (p + q + r + s + t + a + b != 0)
+        fail("a number that is not 0 where nothing was lent");
+    a = 1;
     expected(emuparasol_feed(NULL, 0, NULL, 0, &a, NULL, 0, one_in(2), &h, &p, &b), EMUPARASOL_OUTPUT_SHORT);
     a = 0;
     expected(emuparasol_feed(NULL, 0, empty, sizeof empty, &a, NULL, 0, true, &h, &p, &b), EMUPARASOL_COMMITTED);
@@ -497,7 +529,7 @@ static void episode(void) {
     try_create(n, z, pool_length);
     carried = stream_length = 0;
     for (int round = 0; round < 60; round++) {
-        switch (below(10)) {
+        switch (below(11)) {
         case 0:
             try_lookup(pool, pool_length);
             try_status(pool, pool_length);
@@ -506,6 +538,7 @@ static void episode(void) {
         case 2: try_record(); break;
         case 5:
         case 6: try_feed(pool, pool_length); break;
+        case 7: try_explain(pool, pool_length); break;
         case 3:
         case 4: {
             memcpy(copy, pool, pool_length);
@@ -518,6 +551,8 @@ static void episode(void) {
                 try_refresh(copy, length);
             if (one_in(2))
                 try_feed(copy, length);
+            if (one_in(2))
+                try_explain(copy, length);
             try_meld(copy, length);
             break;
         }
@@ -549,7 +584,7 @@ int main(int argc, char **argv) {
     payloads_area = area_of(8 * LIST);
     lows_area = area_of(4 * PAIRS);
     highs_area = area_of(4 * PAIRS);
-    for (int i = 0; i < 5; i++)
+    for (int i = 0; i < 7; i++)
         number_areas[i] = area_of(8);
     do
         for (int i = 0; i < 100; i++)
@@ -567,5 +602,8 @@ int main(int argc, char **argv) {
     for (int i = 0; i < 4; i++)
         if (happenings[i] == 0 || completed == 0)
             fail("something that feed does did not happen");
+    printf("explained: a point in conflict %lu, a scan %lu, too old %lu, no room %lu\n", points_blamed, scans_blamed, lags_told, keys_told);
+    if (points_blamed == 0 || scans_blamed == 0 || lags_told == 0 || keys_told == 0)
+        fail("a reason was not told");
     return 0;
 }

@@ -1,15 +1,19 @@
--- The numbers tell the cases apart: what C is given says which case of the enum stood behind it, and where the record in force lies.
+-- The numbers tell the cases apart: what C is given says which case of the enum stood behind it, where the record in force lies, and why a record
+-- gets its answer.
 -- Assumes nothing.
 use Prim.Native.Nat.{ℕ, _-_, _≤_}
-use mathlib.Core.Path.{_≡_, refl, sym, ap, _∙_}
+use mathlib.Core.Path.{_≡_, refl, sym, ap, subst, _∙_}
 use mathlib.Core.Bool.{Bool, cond}
 use mathlib.Core.Option.{Option, none, some}
 use mathlib.Core.List.{List}
 use native.Mathlib.Omega.{arith}
 use lib.ListN.{length, take, drop}
 use lib.Seq.{take-length, length-take-le}
+use Rattle.record.specs.Record.{Rec}
+use Rattle.record.specs.Parse.{parse}
 use Rattle.rules.specs.State.{Entry, State, Lawful}
 use Rattle.rules.proofs.Finding.{find-of}
+use Rattle.rules.specs.Verdict.{Verdict, committed, conflict, tooOld, noRoom, malformed, ahead, positionsUsedUp, verdict}
 use Rattle.rules.specs.Lookup.{Seen, absent, found, find, payloadAt, seen, lookup}
 use Rattle.pool.specs.Image.{Arrangement, Image, Fit, stateOf}
 use Rattle.log.specs.declared.found.Cut.{Cut}
@@ -19,9 +23,14 @@ use Rattle.log.proofs.Stands.{record-tells}
 use Rattle.record_abi.specs.Numbers.{answer}
 use Rattle.in_force.specs.InForce.{Source, original, refreshed, nothing, sourceOf, bytesFrom}
 use Rattle.meld.specs.Lookups.{lookupOf}
+use Rattle.reason.specs.declared.told.Touch.{Touch}
+use Rattle.reason.specs.declared.told.Touch.the-variants.{Point, Scan}
+use Rattle.reason.specs.declared.told.Reason.{Reason}
+use Rattle.reason.specs.Reason.{IsNumber, first, later, TouchedBy, by-point, by-scan, ReasonFor, TrueReason}
 use Rattle.abi.specs.declared.numbers.LookupNumbers.{LookupNumbers}
+use Rattle.abi.specs.declared.numbers.ReasonNumbers.{ReasonNumbers}
 use Rattle.abi.specs.Numbers as Numbers
-use Rattle.abi.specs.Told.{LooksUpAs, LookupTells, inRefreshed, InForceAs}
+use Rattle.abi.specs.Told.{LooksUpAs, LookupTells, inRefreshed, InForceAs, ExplainsInNumbers, TouchTells, is-point, is-scan, BlameTells, ReasonTells, ExplainTells}
 
 -- A LOOKUP
 
@@ -88,3 +97,46 @@ in-force-tells n o b r offset size h = rw (h .slice, h .start, h .bytes) (of-sou
     of-source original = take-length o
     of-source refreshed = front-part b (cutAt b 0) refl
     of-source nothing = refl
+
+-- THE REASON
+
+-- numbers in a list begin at 1
+pub number-least : {A : Type 0} {x : A} {i : ℕ} {xs : List A} → IsNumber x i xs → 1 ≤ i
+number-least first = omega arith
+number-least (later h) = omega arith
+
+-- exactly one of the two is above 0
+touch-tells : (r : Rec) (k : ℕ) (t : Touch) → TouchedBy r k t → TouchTells r k (Numbers.ofTouch t .point) (Numbers.ofTouch t .scan)
+touch-tells r k (Point i) (by-point n e) = is-point (number-least n) (by-point n e)
+touch-tells r k (Scan i) (by-scan others n a b) = is-scan (number-least n) (by-scan others n a b)
+
+-- so the numbers are those of the true reason
+reason-tells : (S : State) (r : Rec) (x : Reason) (v : Verdict) → ReasonFor S r x v → ReasonTells S r (Numbers.ofReason x) v
+reason-tells S r x committed h = ap Numbers.reasonNumbers h
+reason-tells S r x conflict h =
+    record {
+      e = h .e;
+      smallest = h .smallest;
+      point = Numbers.ofTouch (h .touch) .point;
+      scan = Numbers.ofTouch (h .touch) .scan;
+      touched = touch-tells r (h .e .key) (h .touch) (h .touched);
+      told = ap Numbers.reasonNumbers (h .tells);
+    }
+reason-tells S r x tooOld h = ap Numbers.reasonNumbers h
+reason-tells S r x noRoom h = ap Numbers.reasonNumbers h
+reason-tells S r x malformed h = ap Numbers.reasonNumbers h
+reason-tells S r x ahead h = ap Numbers.reasonNumbers h
+reason-tells S r x positionsUsedUp h = ap Numbers.reasonNumbers h
+
+-- all eight numbers, for any bytes
+pub explain-tells : (m bytes : List ℕ) (t : Numbers.ExplainedNumbers) → ExplainsInNumbers m bytes t → ExplainTells m bytes t
+explain-tells m bytes t h = rw (h .told)
+    record {
+      unfit = λ u. ap Numbers.ofExplained (h .explains .unfit u);
+      as-melded = λ A i. h .explains .fit A i .as-melded;
+      no-record = λ A i is. ap Numbers.reasonNumbers (true-of A i none is);
+      reason-is = λ A i r is. reason-tells (stateOf A) r (h .said .reason) (verdict (stateOf A) (some r)) (true-of A i (some r) is);
+    }
+  where
+    true-of : (A : Arrangement) → Image m A → (o : Option Rec) → parse bytes ≡ o → TrueReason (stateOf A) o (h .said .reason)
+    true-of A i o is = subst (λ (x : Option Rec). TrueReason (stateOf A) x (h .said .reason)) is (h .explains .fit A i .true-reason)

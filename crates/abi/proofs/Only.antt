@@ -20,9 +20,10 @@ use Rattle.meld.specs.Melds.{Melds}
 use Rattle.meld.specs.Statuses.{StatusIs}
 use Rattle.meld.proofs.Only as Meld
 use Rattle.pages.proofs.Only as Pages
+use Rattle.reason.proofs.Only as Reason
 use Rattle.abi.specs.declared.numbers.LookupNumbers.{LookupNumbers}
-use Rattle.abi.specs.Numbers.{melded, lookedUp, statusFrom, FedNumbers, fedNumbers, ofFed, fedFrom}
-use Rattle.abi.specs.Told.{LooksUpAs, InForceAs, FeedsInNumbers}
+use Rattle.abi.specs.Numbers.{melded, lookedUp, statusFrom, FedNumbers, fedNumbers, ofFed, fedFrom, ExplainedNumbers, explainedNumbers, ofExplained}
+use Rattle.abi.specs.Told.{LooksUpAs, InForceAs, FeedsInNumbers, ExplainsInNumbers}
 
 -- `emuparasol_create`: one number, and one content of the pool
 pub only-create : (m : List ℕ) (n z r q : ℕ) (m′ m″ : List ℕ) → Created m n z (answer r) m′ → Created m n z (answer q) m″ → (r ≡ q) × (m′ ≡ m″)
@@ -89,6 +90,25 @@ only-feed m carry carried part over happened n looks taken left happened′ n′
 
     same : t ≡ u
     same = a .told ∙ ap ofFed (one .0) ∙ sym (b .told)
+
+-- `emuparasol_explain`: eight numbers, for any bytes lent as pool and as record
+pub only-explain : (m bytes : List ℕ) (n looks key position point scan lag keys n′ looks′ key′ position′ point′ scan′ lag′ keys′ : ℕ) → Bytes m → Bytes bytes
+    → ExplainsInNumbers m bytes (explainedNumbers n looks key position point scan lag keys)
+    → ExplainsInNumbers m bytes (explainedNumbers n′ looks′ key′ position′ point′ scan′ lag′ keys′)
+    → (n ≡ n′) × (looks ≡ looks′) × (key ≡ key′) × (position ≡ position′) × (point ≡ point′) × (scan ≡ scan′) × (lag ≡ lag′) × (keys ≡ keys′)
+only-explain m bytes n looks key position point scan lag keys n′ looks′ key′ position′ point′ scan′ lag′ keys′ lent named a b = (
+  ap (λ (x : ExplainedNumbers). x .number) same,
+  ap (λ (x : ExplainedNumbers). x .looks) same,
+  ap (λ (x : ExplainedNumbers). x .reason .key) same,
+  ap (λ (x : ExplainedNumbers). x .reason .position) same,
+  ap (λ (x : ExplainedNumbers). x .reason .point) same,
+  ap (λ (x : ExplainedNumbers). x .reason .scan) same,
+  ap (λ (x : ExplainedNumbers). x .reason .lag) same,
+  ap (λ (x : ExplainedNumbers). x .reason .keys) same,
+)
+  where
+    same : explainedNumbers n looks key position point scan lag keys ≡ explainedNumbers n′ looks′ key′ position′ point′ scan′ lag′ keys′
+    same = a .told ∙ ap ofExplained (Reason.only-explain m bytes (a .said) (b .said) lent named (a .explains) (b .explains)) ∙ sym (b .told)
 
 -- `emuparasol_refresh`: one number, and one content of the output
 pub only-refresh : (m original before : List ℕ) (r q : ℕ) (x y : List ℕ)

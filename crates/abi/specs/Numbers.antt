@@ -11,8 +11,14 @@ use Rattle.meld.specs.Lookups.{LookupTold, lookupTold}
 use Rattle.pages.specs.declared.told.Happened.{Happened}
 use Rattle.pages.specs.declared.told.Happened.the-variants.{Decided, Refused, More, End}
 use Rattle.pages.specs.declared.told.Fed.{Fed}
+use Rattle.reason.specs.declared.told.Touch.{Touch}
+use Rattle.reason.specs.declared.told.Reason.{Reason}
+use Rattle.reason.specs.declared.told.Explained.{Explained}
+use Rattle.reason.specs.Reason.{ReasonTold, reasonTold, pointIn, scanIn}
 use Rattle.abi.specs.declared.numbers.LookupNumbers.{LookupNumbers}
 use Rattle.abi.specs.declared.numbers.HappenedNumbers.{HappenedNumbers}
+use Rattle.abi.specs.declared.numbers.TouchNumbers.{TouchNumbers}
+use Rattle.abi.specs.declared.numbers.ReasonNumbers.{ReasonNumbers}
 
 -- what meld gives back, from the number and the looks
 abbrev pub melded : ℕ → ℕ → Melded
@@ -70,3 +76,34 @@ happenedFrom t =
 
 abbrev pub fedFrom : FedNumbers → Fed
 fedFrom t = record { happened = happenedFrom (t .said); looks = t .looks; taken = t .taken; carried = t .carried }
+
+-- what touches a key, as numbers: that of the point or that of the scan, and 0 for the other
+abbrev pub ofTouch : Touch → TouchNumbers
+ofTouch t = record { point = valueOr 0 (pointIn t); scan = valueOr 0 (scanIn t) }
+
+-- the six numbers of a reason
+abbrev pub reasonFrom : ℕ → ℕ → ℕ → ℕ → ℕ → ℕ → ReasonNumbers
+reasonFrom key position point scan lag keys = record { key = key; position = position; point = point; scan = scan; lag = lag; keys = keys }
+
+-- what a reason tells, as numbers: 0 for what is not told
+abbrev pub reasonNumbers : ReasonTold → ReasonNumbers
+reasonNumbers t =
+    reasonFrom (valueOr 0 (t .key)) (valueOr 0 (t .position)) (valueOr 0 (t .point)) (valueOr 0 (t .scan)) (valueOr 0 (t .lag)) (valueOr 0 (t .keys))
+
+-- so the key, the position and the point or the scan with a conflict, the lag with too old, the keys with no room, and 0 for all others (R50)
+abbrev pub ofReason : Reason → ReasonNumbers
+ofReason x = reasonNumbers (reasonTold x)
+
+-- the eight numbers of a call of explain
+pub record ExplainedNumbers : Type 0 where
+  pub number : ℕ
+  pub looks : ℕ
+  pub reason : ReasonNumbers
+
+-- put together: the answer's number, the looks, and the six of the reason
+abbrev pub explainedNumbers : ℕ → ℕ → ℕ → ℕ → ℕ → ℕ → ℕ → ℕ → ExplainedNumbers
+explainedNumbers n looks key position point scan lag keys = record { number = n; looks = looks; reason = reasonFrom key position point scan lag keys }
+
+-- what explain gives back, as numbers
+abbrev pub ofExplained : Explained → ExplainedNumbers
+ofExplained x = record { number = x .answer .number; looks = x .looks; reason = ofReason (x .reason) }

@@ -11,7 +11,9 @@ use meld::refresh;
 use meld::status;
 use numbers::of_happened;
 use numbers::of_lookup;
+use numbers::of_reason;
 use pages::feed;
+use reason::explain;
 use record::Answer;
 use record::check;
 use record::read;
@@ -25,8 +27,8 @@ ghost use Rattle.create.specs.Fresh.{Created};
 ghost use Rattle.refresh.specs.Refreshed.{RefreshIs};
 ghost use Rattle.meld.specs.Melds.{Melds};
 ghost use Rattle.meld.specs.Statuses.{StatusIs};
-ghost use Rattle.abi.specs.Numbers.{melded, lookedUp, statusFrom, fedNumbers};
-ghost use Rattle.abi.specs.Told.{LooksUpAs, InForceAs, FeedsInNumbers};
+ghost use Rattle.abi.specs.Numbers.{melded, lookedUp, statusFrom, fedNumbers, explainedNumbers};
+ghost use Rattle.abi.specs.Told.{LooksUpAs, InForceAs, FeedsInNumbers, ExplainsInNumbers};
 
 // Creates a pool with limits n and z in the bytes lent: 0, or 9 and no byte changes.
 #[no_mangle]
@@ -112,6 +114,38 @@ pub extern "C" fn emuparasol_feed(
     let said = of_happened(what);
     *happened = said.happened;
     said.number
+}
+
+// Why melding a record would answer so: 7, 6, 4, 5, 2, 1, 3 or 0 with the looks, as a meld, and the six numbers of the reason, each 0 where it does
+// not tell it.
+#[no_mangle]
+pub extern "C" fn emuparasol_explain(
+    pool: &[u8],
+    record: &[u8],
+    looks: &mut u32,
+    key: &mut u32,
+    position: &mut u32,
+    point: &mut usize,
+    scan: &mut usize,
+    lag: &mut u32,
+    keys: &mut u32,
+) -> u8
+    ensures { λ r. ⌜ ExplainsInNumbers (now (pool .entry)) (now («record» .entry))
+        (explainedNumbers r (now (looks .exit)) (now (key .exit)) (now (position .exit)) (now (point .exit)) (now (scan .exit)) (now (lag .exit))
+        (now (keys .exit))) ⌝ }
+{
+    let explained = explain(pool, record);
+    *looks = explained.looks;
+    let why = explained.reason;
+    let told = of_reason(why);
+    *key = told.key;
+    *position = told.position;
+    *point = told.point;
+    *scan = told.scan;
+    *lag = told.lag;
+    *keys = told.keys;
+    let answer = explained.answer;
+    answer.number
 }
 
 // Puts the record with the pool's position as snapshot at the front of the output: 7, 4, 5, 2, 1, 8 or 0.

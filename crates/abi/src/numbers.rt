@@ -1,9 +1,11 @@
-// What a lookup answers, and what a call of feed has done, as plain numbers.
+// What a lookup answers, what a call of feed has done, and the reason of an answer, as plain numbers.
 use meld::Lookup;
 use pages::Happened;
+use reason::Reason;
+use reason::Touch;
 use record::Answer;
 ghost use mathlib.Core.Path.{_≡_};
-ghost use Rattle.abi.specs.Numbers.{ofLookup, ofHappened};
+ghost use Rattle.abi.specs.Numbers.{ofLookup, ofHappened, ofTouch, ofReason};
 
 // The number of a case to which the rules give none.
 const NO_NUMBER: u8 = 0;
@@ -73,6 +75,85 @@ pub fn of_happened(what: Happened) -> HappenedNumbers
         Happened::End => HappenedNumbers {
             happened: END,
             number: NO_NUMBER,
+        },
+    }
+}
+
+// What touches a key: the number of the point, or of the scan, and 0 for the other.
+pub struct TouchNumbers {
+    pub point: usize,
+    pub scan: usize,
+}
+
+// What touches a key, as numbers.
+pub fn of_touch(touch: Touch) -> TouchNumbers
+    ensures { λ r. ⌜ r ≡ ofTouch touch ⌝ }
+{
+    match touch {
+        Touch::Point(number) => TouchNumbers {
+            point: number,
+            scan: 0,
+        },
+        Touch::Scan(number) => TouchNumbers {
+            point: 0,
+            scan: number,
+        },
+    }
+}
+
+// The numbers of a reason, each 0 where it does not tell it.
+pub struct ReasonNumbers {
+    pub key: u32,
+    pub position: u32,
+    pub point: usize,
+    pub scan: usize,
+    pub lag: u32,
+    pub keys: u32,
+}
+
+// A reason as numbers.
+pub fn of_reason(why: Reason) -> ReasonNumbers
+    ensures { λ r. ⌜ r ≡ ofReason why ⌝ }
+{
+    match why {
+        Reason::Nothing => ReasonNumbers {
+            key: 0,
+            position: 0,
+            point: 0,
+            scan: 0,
+            lag: 0,
+            keys: 0,
+        },
+        Reason::Conflict {
+            key,
+            position,
+            touch,
+        } => {
+            let by = of_touch(touch);
+            ReasonNumbers {
+                key,
+                position,
+                point: by.point,
+                scan: by.scan,
+                lag: 0,
+                keys: 0,
+            }
+        }
+        Reason::TooOld { lag } => ReasonNumbers {
+            key: 0,
+            position: 0,
+            point: 0,
+            scan: 0,
+            lag,
+            keys: 0,
+        },
+        Reason::NoRoom { keys } => ReasonNumbers {
+            key: 0,
+            position: 0,
+            point: 0,
+            scan: 0,
+            lag: 0,
+            keys,
         },
     }
 }

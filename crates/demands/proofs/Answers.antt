@@ -45,6 +45,9 @@ use Rattle.in_force.proofs.Only.{in-force-only}
 use Rattle.pages.specs.declared.told.Fed.{Fed}
 use Rattle.pages.specs.Pages.{Feeds}
 use Rattle.pages.proofs.Only.{only-feed}
+use Rattle.reason.specs.declared.told.Explained.{Explained}
+use Rattle.reason.specs.Reason.{Explains}
+use Rattle.reason.proofs.Only.{only-explain}
 use Rattle.demands.specs.Answers.{OneAnswer}
 
 -- WHERE THE PROMISE IS AN EQUATION
@@ -126,6 +129,10 @@ feed-one m carry carried part over b x y p q = let e = only-feed b p q in λ i. 
 -- the answer and the whole output
 pub refresh-one : (m original before : List ℕ) → OneAnswer (λ (x : Answer × List ℕ). RefreshIs m original before (x .0) (x .1))
 refresh-one m original before x y p q = let e = refresh-only m original before (x .0) (y .0) (x .1) (y .1) p q in λ i. (e .0 i, e .1 i)
+
+-- answer, looks and reason
+pub explain-one : (m bytes : List ℕ) → Bytes m → Bytes bytes → OneAnswer (λ (x : Explained). Explains m bytes x)
+explain-one m bytes lent b x y p q = only-explain m bytes x y lent b p q
 
 -- SLICES
 

@@ -33,6 +33,7 @@ call-stays-fit (Call.lookup k x l) f = f
 call-stays-fit (Call.meld bytes x b h) f = meld-stays-fit h f
 call-stays-fit (Call.feed carry carried part over r carry′ b d h) f = feed-stays-fit h f
 call-stays-fit (Call.refresh original before after a b c h) f = f
+call-stays-fit (Call.explain bytes x b h) f = f
 
 -- and so do several
 pub calls-stay-fit : {m m′ : List ℕ} → Calls m m′ → Fit m → Fit m′

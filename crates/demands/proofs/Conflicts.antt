@@ -39,7 +39,7 @@ pool-at-means {N} {Z} {parts = parts} {q = q} {m = m} b w k =
     (subst (λ (n : ℕ). Means m (after (fresh N Z) (take n (map parse parts)))) (k .count) (card-follows b w (k .card) .means))
 
 -- row 1 at a pool that means the state after a log
-row-beaten : (N Z : ℕ) (log : Log) (m bytes : List ℕ) → Means m (after (fresh N Z) log) → Row1 m bytes ↔ Conflicted N Z log (parse bytes)
+pub row-beaten : (N Z : ℕ) (log : Log) (m bytes : List ℕ) → Means m (after (fresh N Z) log) → Row1 m bytes ↔ Conflicted N Z log (parse bytes)
 row-beaten N Z log m bytes means = (to, from)
   where
     S : State

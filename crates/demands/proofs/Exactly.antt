@@ -67,7 +67,7 @@ position-put m m′ A i j =
 -- EACH ANSWER EXACTLY WHEN
 
 -- the row of a verdict
-abbrev RowOf : List ℕ → List ℕ → Verdict → Type 0
+abbrev pub RowOf : List ℕ → List ℕ → Verdict → Type 0
 RowOf m bytes committed = Row0 m bytes
 RowOf m bytes conflict = Row1 m bytes
 RowOf m bytes tooOld = Row2 m bytes
@@ -77,7 +77,7 @@ RowOf m bytes ahead = Row5 m bytes
 RowOf m bytes positionsUsedUp = Row6 m
 
 -- some row applies, and it is the verdict's
-row-applies : (m bytes : List ℕ) (S : State) → Means m S → S .p ≤ lastPosition → RowOf m bytes (verdict S (parse bytes))
+pub row-applies : (m bytes : List ℕ) (S : State) → Means m S → S .p ≤ lastPosition → RowOf m bytes (verdict S (parse bytes))
 row-applies m bytes S means last = ⊎-elim
     (λ (l : lastPosition ≤ S .p). subst (RowOf m bytes) (sym (verdict-last S (parse bytes) l)) (record { S = S; means = means; used-up = omega arith }))
     (λ (l : S .p < lastPosition). formed (record { means = means; left = l }) (parse bytes) refl)

@@ -21,3 +21,5 @@ pub mod FedOn
 pub mod Feeding
 pub mod Parts
 pub mod SomeFeeding
+pub mod Reasons
+pub mod Writers

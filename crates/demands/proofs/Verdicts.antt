@@ -39,7 +39,7 @@ use Rattle.demands.proofs.Cards.{map-take}
 use Rattle.demands.proofs.Chains.{pool-means, pool-few}
 
 -- what bytes parse to is well formed
-parsed-well-formed : {parts : List (List ℕ)} → AllBytes parts → WellFormed (map parse parts)
+pub parsed-well-formed : {parts : List (List ℕ)} → AllBytes parts → WellFormed (map parse parts)
 parsed-well-formed no-bytes r m = elim m [ ]
 parsed-well-formed (more-bytes {bytes = bytes} b bs) r (here e) = parsed-valid bytes b r (sym e)
 parsed-well-formed (more-bytes b bs) r (there m) = parsed-well-formed bs r m

@@ -12,3 +12,4 @@ pub mod TableLog
 pub mod ListsBack
 pub mod Feeding
 pub mod SomeRun
+pub mod Reasons

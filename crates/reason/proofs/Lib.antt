@@ -1,3 +1,6 @@
+pub mod Above
+pub mod Apart
+pub mod Only
 mod Touching
 mod Explaining
 mod Whole

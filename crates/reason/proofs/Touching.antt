@@ -19,13 +19,9 @@ use Rattle.conflict_search.specs.Cursor.{Reached, belowAt}
 use Rattle.reason.specs.declared.told.Touch.the-variants as Touches
 use Rattle.reason.specs.Reason.{IsNumber, first, later, TouchedBy, by-point, by-scan}
 use Rattle.reason.specs.Steps.{TouchLists, TouchIs}
+use Rattle.reason.proofs.Above.{above, beyond-low}
 
 -- POINTS
-
--- the keys from low on are at least low
-above : (low : ℕ) (ps : List Point) → PointsRise low ps → (q : Point) → Mem q ps → low ≤ keyOf q
-above low (x ∷ ps) r q (here e) = omega (arith, r .0, ap keyOf e)
-above low (x ∷ ps) r q (there m) = omega (arith, r .0, above (keyOf x + 1) ps (r .3) q m)
 
 -- the point at a place
 point-at : (ps : List Point) (p : ℕ) → p < length ps → (q : Point) × IsNumber q (suc p) ps × (keyOf q ≡ getD (map keyOf ps) p 0)
@@ -43,11 +39,6 @@ no-point low (x ∷ ps) (suc p) k r passed beyond q (there m) h =
     no-point (keyOf x + 1) ps p k (r .3) (λ i l. passed (suc i) (omega arith)) (λ l. beyond (omega arith)) q m h
 
 -- SCANS
-
--- the lows from low on are at least low
-beyond-low : (low : ℕ) (cs : List Scan) → Apart low cs → (c : Scan) → Mem c cs → low ≤ c .low
-beyond-low low (x ∷ cs) r c (here e) = omega (arith, r .0, ap (λ (z : Scan). z .low) e)
-beyond-low low (x ∷ cs) r c (there m) = omega (arith, r .0, r .1, beyond-low (x .high + 1) cs (r .3) c m)
 
 -- where a scan covers a key, the first whose high is not below it does
 scan-at : (low : ℕ) (cs : List Scan) (p k : ℕ) → Apart low cs → ((i : ℕ) → i < p → getD (map highOf cs) i 0 < k) → (p < length cs → k ≤ getD (map highOf cs) p 0)

@@ -111,8 +111,8 @@ pub enum Error {
     BadLimits,
     /// The log does not go on with a whole record.
     BrokenLog,
-    /// A number that R3 does not have, or 0 beside a length that cannot be. The
-    /// library is proved to answer no such thing; another archive might.
+    /// A number that R3 does not have, or 0 beside a length or a number that cannot be.
+    /// The library is proved to answer no such thing; another archive might.
     Unknown(u8),
 }
 

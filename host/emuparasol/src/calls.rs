@@ -87,6 +87,37 @@ pub fn feed(
     }
 }
 
+/// See `emuparasol_explain`.
+#[allow(clippy::too_many_arguments)]
+pub fn explain(
+    pool: &[u8],
+    record: &[u8],
+    looks: &mut u32,
+    key: &mut u32,
+    position: &mut u32,
+    point: &mut u64,
+    scan: &mut u64,
+    lag: &mut u32,
+    keys: &mut u32,
+) -> u8 {
+    // SAFETY: slices and references, as the head of this file says.
+    unsafe {
+        emuparasol_explain(
+            pool.as_ptr(),
+            pool.len() as u64,
+            record.as_ptr(),
+            record.len() as u64,
+            looks,
+            key,
+            position,
+            point,
+            scan,
+            lag,
+            keys,
+        )
+    }
+}
+
 /// See `emuparasol_refresh`.
 pub fn refresh(pool: &[u8], original: &[u8], output: &mut [u8]) -> u8 {
     // SAFETY: slices and references, as the head of this file says.

@@ -40,6 +40,19 @@ extern "C" {
         looks: *mut u32,
         taken: *mut u64,
     ) -> u8;
+    pub fn emuparasol_explain(
+        pool: *const u8,
+        pool_length: u64,
+        record: *const u8,
+        record_length: u64,
+        looks: *mut u32,
+        key: *mut u32,
+        position: *mut u32,
+        point: *mut u64,
+        scan: *mut u64,
+        lag: *mut u32,
+        keys: *mut u32,
+    ) -> u8;
     pub fn emuparasol_refresh(
         pool: *const u8,
         pool_length: u64,

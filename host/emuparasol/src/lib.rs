@@ -20,12 +20,14 @@ mod declared;
 mod feed;
 mod log;
 mod pool;
+mod reason;
 mod record;
 
 pub use answer::{Error, Verdict};
 pub use feed::{Carry, Fed, CARRY_BYTES};
 pub use log::{BrokenLog, Records};
 pub use pool::{in_force, pool_bytes, Found, Limits, Melded, Pool, Status};
+pub use reason::{Explained, Reason, Touch};
 pub use record::{
     check, Point, Record, RecordBuffer, Scan, LEAST_RECORD, MOST_POINTS, MOST_RECORD, MOST_SCANS,
 };

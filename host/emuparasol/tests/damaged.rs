@@ -5,17 +5,18 @@
 
 mod common;
 
-use common::{fresh, lookup, lookup_both, means, meld, meld_both};
+use common::{explain, explain_both, fresh, lookup, lookup_both, means, meld, meld_both};
 use common::{refresh, refresh_both, seeded, status};
 use reference::layout::state_of;
 use reference::random::Random;
 use reference::State;
 
-/// All four calls on these bytes, compared; are they fit?
+/// All five calls on these bytes, compared; are they fit?
 fn judge(pool: &[u8], record: &[u8], key: u32) -> bool {
     let Some(state) = state_of(pool) else {
         assert_eq!(status(pool), (7, [0; 5]));
         assert_eq!(lookup(pool, key), (7, 0, 0));
+        assert_eq!(explain(pool, record), (7, 0, [0; 6]));
         let mut lent = pool.to_vec();
         assert_eq!(meld(&mut lent, record), (7, 0));
         assert_eq!(lent, pool);
@@ -27,6 +28,7 @@ fn judge(pool: &[u8], record: &[u8], key: u32) -> bool {
     means(pool, &state);
     lookup_both(pool, &state, key);
     refresh_both(pool, &state, record, record.len());
+    explain_both(pool, &state, record);
     meld_both(&mut pool.to_vec(), &mut state.clone(), record);
     true
 }

@@ -89,6 +89,8 @@ fn any_bytes_will_do_and_become_the_same() {
     assert_eq!(shown.lookup(10), Ok(None));
     let waited = record(3, &[Point::read(20)]);
     assert_eq!(shown.refresh(&waited, &mut [0; 14]), Ok(&waited[..]));
+    let explained = shown.explain(&waited).expect("fit");
+    assert_eq!(explained.verdict, Verdict::Committed);
 
     // Bytes taken over are the pool that they were.
     let mut taken = Pool::from_bytes(expected.clone());
@@ -144,6 +146,7 @@ fn a_pool_of_a_wrong_size_is_refused_and_left_alone() {
         assert_eq!(pool.status(), Err(Error::UnfitPool));
         assert_eq!(pool.lookup(10), Err(Error::UnfitPool));
         assert_eq!(pool.meld(record), Err(Error::UnfitPool));
+        assert_eq!(pool.explain(record), Err(Error::UnfitPool));
         let mut output = [0xC3; 60];
         let refreshed = pool.refresh(record, &mut output);
         assert_eq!(refreshed, Err(Error::UnfitPool));
@@ -168,6 +171,8 @@ fn verdicts_take_a_position_and_errors_do_not() {
     ];
     for (taken, (record, verdict, looks)) in rows.iter().enumerate() {
         assert_eq!(position(&pool) as usize, taken);
+        let explained = pool.explain(record).expect("a position");
+        assert_eq!((explained.verdict, explained.looks), (*verdict, *looks));
         let melded = pool.meld(record).expect("a position");
         assert_eq!((melded.verdict, melded.looks), (*verdict, *looks));
         assert_eq!(verdict.committed().is_ok(), taken == 0);
@@ -182,6 +187,7 @@ fn verdicts_take_a_position_and_errors_do_not() {
     bytes[12..16].copy_from_slice(&u32::MAX.to_be_bytes());
     let mut pool = Pool::from_bytes(bytes);
     assert_eq!(pool.meld(&rows[0].0), Err(Error::PositionsUsedUp));
+    assert_eq!(pool.explain(&rows[0].0), Err(Error::PositionsUsedUp));
     assert_eq!(pool.as_bytes(), bytes);
     bytes[0] ^= 1;
     let mut pool = Pool::from_bytes(bytes);
@@ -228,6 +234,7 @@ fn fickle_bytes_are_answered() {
     let mut said = [0; 11];
     for turn in 0..60 {
         let number = match turn % 5 {
+            0 if turn % 3 == 0 => common::number(&pool.explain(&records[0])),
             0 if turn % 2 == 0 => common::number(&pool.status()),
             0 => common::number(&pool.lookup(10)),
             1 => match pool.meld(&records[turn % 3]) {

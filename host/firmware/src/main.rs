@@ -3,8 +3,8 @@
 //! for each record, then `end` or `10`; only `9` for bad limits; nothing where the input
 //! cannot be read to its end, or is longer than there is room for.
 //!
-//! Along the way each record is taken apart and written again, refreshed and looked
-//! up, and the log is fed page by page into a second pool, which must say and become the
+//! Along the way each record is taken apart and written again, refreshed, explained and
+//! looked up, and the log is fed page by page into a second pool, which must say and become the
 //! same; where anything is not as it must be, a line `DIFFERS` goes out.
 //!
 //! What a panic would call is not there to be linked. So the program is built (with
@@ -16,8 +16,8 @@
 mod system;
 
 use emuparasol::{
-    check, in_force, pool_bytes, Carry, Error, Fed, Limits, Melded, Point, Pool, Record,
-    RecordBuffer, Records, Verdict, LEAST_RECORD, MOST_RECORD,
+    check, in_force, pool_bytes, Carry, Error, Fed, Limits, Melded, Point, Pool, Reason, Record,
+    RecordBuffer, Records, Touch, Verdict, LEAST_RECORD, MOST_RECORD,
 };
 use system::{read_all, say, say_number};
 
@@ -50,6 +50,35 @@ fn there_and_back(bytes: &[u8], buffer: &mut RecordBuffer) -> bool {
         Ok(record) => check(bytes).is_ok() && record.write(&mut output) == Ok(bytes),
         Err(error) => check(bytes) == Err(error) && error == Error::Malformed,
     }
+}
+
+/// Does explaining before the meld say what it said, and name what the record has (R50)?
+fn explained_alike<B: AsRef<[u8]>>(
+    pool: &Pool<B>,
+    bytes: &[u8],
+    melded: Melded,
+    record: Record<'_>,
+) -> bool {
+    let Ok(explained) = pool.explain(bytes) else {
+        return false;
+    };
+    let named = match explained.reason {
+        Some(Reason::Conflict {
+            position, touch, ..
+        }) => {
+            let there = match touch {
+                Touch::Point(number) => (1..=record.points.len()).contains(&number),
+                Touch::Scan(number) => (1..=record.scans.len()).contains(&number),
+            };
+            there && position > record.snapshot
+        }
+        _ => true,
+    };
+    let told = explained.reason.is_some();
+    let refused = [Verdict::Conflict, Verdict::TooOld, Verdict::NoRoom].contains(&melded.verdict);
+    named
+        && told == refused
+        && (explained.verdict, explained.looks) == (melded.verdict, melded.looks)
 }
 
 /// Does a refresh before the meld agree with its verdict (R38)?
@@ -156,6 +185,7 @@ fn meld_log(bytes: &mut [u8], limits: Limits, log: &[u8]) -> Result<(), Error> {
             && status.tombstones <= status.kept
             && status.kept <= limits.n
             && refreshed_alike(&Pool::from_bytes(before), part, melded.verdict)
+            && explained_alike(&Pool::from_bytes(before), part, melded, buffer.record())
             && (!committed || stored(&pool, buffer.record(), status.position));
         if !right {
             say("DIFFERS\n");

@@ -5,7 +5,9 @@
 
 pub mod raw;
 
-use emuparasol::{Error, Point, Pool, Record, RecordBuffer, Records, Scan, MOST_RECORD};
+use emuparasol::{
+    Error, Point, Pool, Reason, Record, RecordBuffer, Records, Scan, Touch, MOST_RECORD,
+};
 use reference::layout::state_of;
 use reference::program::split;
 use reference::{Answer, Kind, Limits, State};
@@ -147,6 +149,47 @@ pub fn meld(pool: &mut Vec<u8>, record: &[u8]) -> (u8, u32) {
     assert_eq!(raw::meld(pool, record), melded);
     lent.same(pool);
     melded
+}
+
+/// The six numbers of a reason: key, position, point, scan, lag and keys.
+fn numbers(reason: Option<Reason>) -> [u64; 6] {
+    let of = |key: u32, position: u32, [point, scan]: [usize; 2], lag: u32, keys: u32| {
+        let [point, scan] = [point, scan].map(|number| number as u64);
+        let [key, position, lag, keys] = [key, position, lag, keys].map(u64::from);
+        [key, position, point, scan, lag, keys]
+    };
+    match reason {
+        None => of(0, 0, [0, 0], 0, 0),
+        Some(Reason::Conflict {
+            key,
+            position,
+            touch: Touch::Point(number),
+        }) => of(key, position, [number, 0], 0, 0),
+        Some(Reason::Conflict {
+            key,
+            position,
+            touch: Touch::Scan(number),
+        }) => of(key, position, [0, number], 0, 0),
+        Some(Reason::TooOld { lag }) => of(0, 0, [0, 0], lag, 0),
+        Some(Reason::NoRoom { keys }) => of(0, 0, [0, 0], 0, keys),
+    }
+}
+
+/// `explain`: the answer, the looks and the six numbers of the reason. It is what
+/// melding says, and melding is not done.
+pub fn explain(pool: &[u8], record: &[u8]) -> (u8, u32, [u64; 6]) {
+    let (mut lent, mut named) = (bytes(pool), bytes(record));
+    let said = Pool::from_bytes(lent.lent()).explain(named.lent());
+    lent.same(pool);
+    named.same(record);
+    let told = match said {
+        Ok(said) => (said.verdict.number(), said.looks, numbers(said.reason)),
+        Err(_) => (number(&said), 0, [0; 6]),
+    };
+    assert_eq!(said.is_err(), told.0 > 5);
+    assert_eq!(raw::explain(pool, record), told);
+    assert_eq!(meld(&mut pool.to_vec(), record), (told.0, told.1));
+    told
 }
 
 /// `refresh`: the answer. What is given is the front of the output.
@@ -320,6 +363,15 @@ pub fn meld_both(pool: &mut Vec<u8>, state: &mut State, record: &[u8]) -> Answer
 pub fn lookup_both(pool: &[u8], state: &State, key: u32) {
     let (payload, position) = state.lookup(key).unwrap_or((0, 0));
     assert_eq!(lookup(pool, key), (0, payload, position), "key {key}");
+}
+
+/// Explains a record to both, and compares; the six numbers of the reason.
+pub fn explain_both(pool: &[u8], state: &State, record: &[u8]) -> [u64; 6] {
+    let wanted = reference::reason::explain(state, record);
+    let (answer, looks) = (wanted.verdict.answer.number(), wanted.verdict.looks);
+    let numbers = wanted.reason.numbers();
+    assert_eq!(explain(pool, record), (answer, looks, numbers));
+    numbers
 }
 
 /// Refreshes in both, with so many bytes of output, and compares the answer, the

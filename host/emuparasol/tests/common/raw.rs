@@ -80,6 +80,31 @@ pub fn feed(pool: &mut Vec<u8>, carry: &mut Vec<u8>, carried: u64, part: &[u8], 
     }
 }
 
+/// `explain`: the answer, the looks, and key, position, point, scan, lag and keys.
+pub fn explain(pool: &[u8], record: &[u8]) -> (u8, u32, [u64; 6]) {
+    let (mut lent, mut named) = (bytes(pool), bytes(record));
+    let mut numbers = [84, 85, 86, 87, 88].map(|before| words(&[before]));
+    let [looks, key, position, lag, keys] = numbers.each_mut().map(|it| &mut it.lent()[0]);
+    let (mut point, mut scan) = (size(), size());
+    let answer = calls::explain(
+        lent.lent(),
+        named.lent(),
+        looks,
+        key,
+        position,
+        &mut point.lent()[0],
+        &mut scan.lent()[0],
+        lag,
+        keys,
+    );
+    lent.same(pool);
+    named.same(record);
+    let [looks, key, position, lag, keys] = numbers.map(|number| number.number());
+    let [point, scan] = [point, scan].map(|number| number.number());
+    let [key, position, lag, keys] = [key, position, lag, keys].map(u64::from);
+    (answer, looks, [key, position, point, scan, lag, keys])
+}
+
 /// `refresh`: the answer.
 pub fn refresh(pool: &[u8], original: &[u8], output: &mut Vec<u8>) -> u8 {
     let (mut lent, mut named, mut filled) = (bytes(pool), bytes(original), bytes(output));
