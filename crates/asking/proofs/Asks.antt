@@ -1,10 +1,10 @@
 -- The three ways in which a question about a log is answered, each as the promise (specs/Asked.antt).
 -- Assumes nothing.
 use Prim.Native.Nat.{ℕ}
-use mathlib.Core.Path.{_≡_, refl, sym, ap, subst, _∙_}
+use mathlib.Core.Path.{_≡_, refl, sym, subst}
 use mathlib.Core.Bool.{true, false}
 use mathlib.Core.List.{List, _++_}
-use lib.ListN.{length, take, drop, replicate}
+use lib.ListN.{take, drop, replicate}
 use Rattle.lines.specs.declared.opening.Asked.{Asked}
 use Rattle.lines.specs.Opening.{limitN, limitZ, Opens}
 use Rattle.stream.specs.declared.input.Filled.{Filled}

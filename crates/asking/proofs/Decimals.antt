@@ -13,7 +13,6 @@ use lib.ListN.{length, drop, getD, drop-of-length-le}
 use lib.Seq.{drop-cons}
 use Rattle.words.specs.Choice.{if_then_else_}
 use Rattle.rules.specs.State.{lastPosition}
-use Rattle.asking.specs.declared.digits.Number.{Number}
 use Rattle.asking.specs.declared.digits.Number.the-variants.{Nothing, Is}
 use Rattle.asking.specs.Decimal.{digitOf, allDigits, withDigits, numberOf}
 

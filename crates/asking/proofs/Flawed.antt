@@ -2,9 +2,8 @@
 -- Assumes nothing.
 use Prim.Native.Nat.{ℕ, _≤_}
 use mathlib.Core.Path.{_≡_, sym, ap, subst, _∙_}
-use mathlib.Core.Bool.{true, false, true≢false}
+use mathlib.Core.Bool.{true, false}
 use mathlib.Core.List.{List}
-use Rattle.record.specs.Answer.{committed}
 use Rattle.record.specs.declared.answer.Answer.{Answer}
 use Rattle.record.specs.Parse.{parse, checkOf}
 use Rattle.asking.specs.declared.flaws.Flaw.{Flaw}

@@ -1,7 +1,7 @@
 -- The nine numbers, each from its own equation.
 -- Assumes nothing.
 use Prim.Native.Nat.{ℕ}
-use mathlib.Core.Path.{_≡_, refl, sym, ap, _∙_}
+use mathlib.Core.Path.{_≡_}
 use Rattle.words.specs.Choice.{valueOr}
 use Rattle.meld.specs.declared.kept.Status.{Status}
 use Rattle.reason.specs.declared.told.Reason.{Reason}

@@ -4,7 +4,7 @@
 -- Assumes nothing.
 use Prim.Native.Nat.{ℕ, _+_, _-_, _≤_}
 use mathlib.Core.Path.{_≡_, refl, sym, ap, subst, _∙_}
-use mathlib.Core.Bool.{Bool, true, false, true≢false}
+use mathlib.Core.Bool.{true, false, true≢false}
 use mathlib.Core.Logic.{_⊎_, inl, inr}
 use mathlib.Core.List.{List, [], _∷_, _++_}
 use native.Mathlib.Omega.{arith}
@@ -17,21 +17,21 @@ use Rattle.log.specs.declared.found.Cut.{Cut}
 use Rattle.log.specs.declared.found.Cut.the-variants.{End, Broken, Record}
 use Rattle.log.specs.Log.{lengthAt, cutAt, partOf, RecordAt, CutIs}
 use Rattle.log.proofs.Told.{cut-case}
-use Rattle.log.proofs.Stands.{end-tells, end-found, record-tells, record-found, broken-found, broken-not-end, broken-not-record, end-not-record}
+use Rattle.log.proofs.Stands.{end-tells, end-found, record-tells, record-found, broken-found, broken-not-end, broken-not-record}
 use Rattle.log.proofs.Same.{cut-same, part-same}
 use Rattle.create.specs.Fresh.{Created}
 use Rattle.meld.specs.declared.melding.Melded.{Melded}
 use Rattle.meld.specs.Melds.{Melds}
-use Rattle.demands.specs.Runs.{ReadingOn, so-far, Card, PoolAt, Whole, isOver}
-use Rattle.demands.proofs.Reading.{cut-is, read-first, read-last, read-inside}
+use Rattle.demands.specs.Runs.{ReadingOn, so-far, Card, isOver}
+use Rattle.demands.proofs.Reading.{cut-is, read-first, read-last}
 use Rattle.stream.proofs.Telling.{filled-front}
 use Rattle.asking.specs.declared.window.Seen.{Seen}
 use Rattle.asking.specs.declared.telling.Told.{Told}
 use Rattle.asking.specs.declared.telling.Told.the-variants as Tolds
 use Rattle.asking.specs.Window.{Looked, Shifted}
 use Rattle.asking.specs.Told.{Tells}
-use Rattle.asking.specs.Seeking.{broughtBy, Passed, PassIs, ToldAt, Sought, logIn, isRecord, ExplainedAt, OverAt}
-use Rattle.asking.proofs.Stepping.{seen-cut, seen-held}
+use Rattle.asking.specs.Seeking.{broughtBy, Passed, ToldAt, Sought, logIn, isRecord, ExplainedAt, OverAt}
+use Rattle.asking.proofs.Stepping.{seen-cut}
 
 -- WHAT STANDS AT A PLACE STANDS AT THE FRONT OF THE REST
 

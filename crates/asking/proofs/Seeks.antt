@@ -1,15 +1,13 @@
 -- The loop over the records before a position: what it knows at its test, and the three ways in which it ends.
 -- Assumes nothing.
 use Prim.Native.Nat.{ℕ, _+_, _-_, _≤_, _<_}
-use mathlib.Core.Path.{_≡_, refl, sym, ap, subst, _∙_}
-use mathlib.Core.Bool.{Bool, true, false}
+use mathlib.Core.Path.{_≡_, refl, sym, subst, _∙_}
 use mathlib.Core.Logic.{_⊎_, inl, inr, ⊎-elim}
 use mathlib.Core.List.{List, [], _∷_, _++_}
 use native.Mathlib.Omega.{arith}
-use lib.ListN.{length, take}
+use lib.ListN.{length}
 use denote.Enum.Declared.{tagOf}
 use types.Run.{OneOf}
-use Rattle.demands.specs.Runs.{isOver}
 use Rattle.asking.specs.declared.telling.Told.{Told}
 use Rattle.asking.specs.declared.seeking.Step.{Step}
 use Rattle.asking.specs.declared.seeking.Step.the-variants as Steps

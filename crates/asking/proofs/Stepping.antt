@@ -1,9 +1,9 @@
 -- The steps over a log, one law for each way in which they go on or end.
 -- Assumes nothing.
-use Prim.Native.Nat.{ℕ, _+_, _-_, _≤_, _<_}
-use mathlib.Core.Path.{_≡_, refl, sym, ap, subst, _∙_}
-use mathlib.Core.Bool.{Bool, true, false}
-use mathlib.Core.Logic.{_⊎_, inl, inr, ⊎-elim}
+use Prim.Native.Nat.{ℕ, _-_, _≤_}
+use mathlib.Core.Path.{_≡_, sym, ap, _∙_}
+use mathlib.Core.Bool.{true, false}
+use mathlib.Core.Logic.{_⊎_, ⊎-elim}
 use mathlib.Core.List.{List, [], _∷_}
 use native.Mathlib.Omega.{arith}
 use lib.ListN.{length, take}
@@ -27,7 +27,7 @@ use Rattle.asking.specs.declared.seeking.Step.{Step}
 use Rattle.asking.specs.declared.seeking.Step.the-variants as Steps
 use Rattle.asking.specs.Window.{Looked, Shifted}
 use Rattle.asking.specs.Told.{Tells}
-use Rattle.asking.specs.Seeking.{PassIs, PassedBy, ToldAt, LooksAndTells, stoppedBy}
+use Rattle.asking.specs.Seeking.{PassedBy, ToldAt, LooksAndTells, stoppedBy}
 
 -- WHAT A LOOK SHOWS
 
