@@ -1,15 +1,16 @@
--- The height where two keys part is the least one above which they agree; and the steps of the search for it.
+-- The height where two keys part is the least one above which they agree; and it is told by the leading zeros of their xor.
 -- Assumes nothing.
 use Prim.Native.Nat.{ℕ, zero, suc, _+_, _-_, _*_, _/_, _%_, _^_, _≤_, _<_}
 use mathlib.Core.Path.{_≡_, refl, sym, ap, _∙_, subst}
 use mathlib.Core.Bool.{Bool, true, false}
-use mathlib.Core.Logic.{_≢_}
+use mathlib.Core.Logic.{_≢_, inl, inr}
 use native.Mathlib.Omega.{arith}
-use native.Mathlib.Numerals.{add-one}
-use native.Mathlib.Nat.{pow-suc, div-one, div-eq-of-lt, div-div-eq-div-mul, div-mul-le-self, mod-eq-of-lt}
+use native.Mathlib.Nat.{div-eq-of-lt, div-div-eq-div-mul, div-lt-iff-lt-mul, div-mul-le-self, mod-eq-of-lt, eq-zero-or-pos}
+use lib.Bits.{bitXor, xor-add-and, xor-lt, xor-self, xor-shr, and-le-l, and-le-r}
+use lib.Count.{leadingZeros, leading-of-zero, leading-top}
 use lib.Dec.{eqb}
-use lib.Pow.{pow-add}
-use borrow.Author.Tests.{eq-eqb, ne-eqb, eqb-true, eqb-false}
+use lib.Pow.{pow-add, pow-pos}
+use borrow.Author.Tests.{eqb-true, eqb-false}
 use Rattle.words.specs.Choice.{if_then_else_}
 use Rattle.bits.specs.Bits.{partFrom, partHeight}
 
@@ -62,18 +63,6 @@ part-least x y k e = from-least 32 0 k x y (omega arith) e
 pub part-agrees : (x y : ℕ) → x < 2 ^ 32 → y < 2 ^ 32 → x / 2 ^ partHeight x y ≡ y / 2 ^ partHeight x y
 part-agrees x y a b = from-agrees 32 0 x y (div-eq-of-lt a ∙ sym (div-eq-of-lt b))
 
--- above height 0 stands the key itself
-pub above-zero : (x : ℕ) → x / 2 ^ 0 ≡ x
-above-zero x = div-one x
-
--- keys that differ part above 0
-pub part-positive : (x y : ℕ) → x < 2 ^ 32 → y < 2 ^ 32 → x ≢ y → 0 < partHeight x y
-part-positive x y a b n = go (partHeight x y) refl
-  where
-    go : (h : ℕ) → partHeight x y ≡ h → 0 < h
-    go zero e = absurd (n (sym (above-zero x) ∙ rw e at (part-agrees x y a b) ∙ above-zero y))
-    go (suc h) e = omega arith
-
 -- what agrees above h agrees above a greater height
 pub agree-up : (h k x y : ℕ) → h ≤ k → x / 2 ^ h ≡ y / 2 ^ h → x / 2 ^ k ≡ y / 2 ^ k
 agree-up h k x y l e =
@@ -92,51 +81,36 @@ part-is x y h a b e n =
     let least = more (partHeight x y) refl in
     omega arith
 
--- THE SEARCH
+-- BY THE LEADING ZEROS
 
--- after h halvings, a and b are left of x and y, and the height is h or more
-pub record Parting (x y a b h : ℕ) : Type 0 where
-  pub left : ℕ
-  pub sum : h + left ≡ 32
-  pub so-far : partHeight x y ≡ partFrom left h x y
-  pub a-is : a ≡ x / 2 ^ h
-  pub b-is : b ≡ y / 2 ^ h
+-- numbers whose xor is 0 are equal
+xor-zero : (x y : ℕ) → bitXor x y ≡ 0 → x ≡ y
+xor-zero x y e = omega (arith, e, xor-add-and x y, and-le-l x y, and-le-r x y)
 
--- the loop is left at the height
-pub parted : {x y a b h : ℕ} → Parting x y a b h → a ≡ b → h ≡ partHeight x y
-unfolding partFrom
-parted {x} {y} {a} {b} {h} p e = go (p .left) (p .so-far)
-  where
-    go : (f : ℕ) → partHeight x y ≡ partFrom f h x y → h ≡ partHeight x y
-    go zero q = sym q
-    go (suc f) q = sym (rw (eq-eqb (x / 2 ^ h) (y / 2 ^ h) (sym (p .a-is) ∙ e ∙ p .b-is)) at q)
+-- dividing both keys divides their xor, so keys whose xor is below 2 ^ h agree above h
+xor-below : (x y h : ℕ) → bitXor x y < 2 ^ h → x / 2 ^ h ≡ y / 2 ^ h
+xor-below x y h l = xor-zero (x / 2 ^ h) (y / 2 ^ h) (sym (xor-shr x y h) ∙ div-eq-of-lt l)
 
--- one more halving
-half : (x h : ℕ) → x / 2 ^ h / 2 ≡ x / 2 ^ suc h
-half x h = div-div-eq-div-mul x (2 ^ h) 2 ∙ ap (λ (t : ℕ). x / t) (sym (pow-suc 2 h))
+-- and no other keys do
+below-xor : (x y h : ℕ) → x / 2 ^ h ≡ y / 2 ^ h → bitXor x y < 2 ^ h
+below-xor x y h e =
+    let none : bitXor x y / 2 ^ h ≡ 0 = xor-shr x y h ∙ ap (λ (t : ℕ). bitXor t (y / 2 ^ h)) e ∙ xor-self (y / 2 ^ h) in
+    let one : bitXor x y / 2 ^ h < 1 = omega (arith, none) in
+    omega (arith, div-lt-iff-lt-mul (pow-pos h) .0 one)
 
--- a turn of the loop
-pub more : {x y a b h : ℕ} → x < 2 ^ 32 → y < 2 ^ 32 → Parting x y a b h → a ≢ b → (h < 32) × Parting x y (a / 2) (b / 2) (h + 1)
-unfolding partFrom
-more {x} {y} {a} {b} {h} u v p e = go (p .left) (p .sum) (p .so-far)
-  where
-    go : (f : ℕ) → h + f ≡ 32 → partHeight x y ≡ partFrom f h x y → (h < 32) × Parting x y (a / 2) (b / 2) (h + 1)
-    go zero s q =
-        let t : h ≡ 32 = omega arith in
-        let none : (z : ℕ) → z < 2 ^ 32 → z / 2 ^ h ≡ 0 = λ z l. rw t (div-eq-of-lt l) in
-        absurd (e (p .a-is ∙ none x u ∙ sym (none y v) ∙ sym (p .b-is)))
-    go (suc f) s q =
-        let n : x / 2 ^ h ≢ y / 2 ^ h = λ z. e (p .a-is ∙ z ∙ sym (p .b-is)) in
-        let r : partHeight x y ≡ partFrom f (suc h) x y = rw (ne-eqb (x / 2 ^ h) (y / 2 ^ h) n) at q in (
-          omega arith,
-          rw add-one (record {
-            left = f;
-            sum = omega arith;
-            so-far = r;
-            a-is = ap (λ (z : ℕ). z / 2) (p .a-is) ∙ half x h;
-            b-is = ap (λ (z : ℕ). z / 2) (p .b-is) ∙ half y h;
-          }),
-        )
+-- 32 less the leading zeros of x xor y is the height where x and y part: the one just above the highest bit in which they differ
+pub part-leading : (x y : ℕ) → x < 2 ^ 32 → y < 2 ^ 32 → 32 - leadingZeros 32 (bitXor x y) ≡ partHeight x y
+part-leading x y a b = elim (eq-zero-or-pos (bitXor x y)) [
+  | inl e ↦
+      let none = part-least x y 0 (xor-below x y 0 (omega (arith, e))) in
+      let all : leadingZeros 32 (bitXor x y) ≡ 32 = ap (leadingZeros 32) e ∙ leading-of-zero 32 in
+      omega (arith, none, all)
+  | inr p ↦
+      let top = leading-top 32 (bitXor x y) p (xor-lt 32 x y a b) in
+      let agree = xor-below x y (suc (top .0)) (top .3) in
+      let is = part-is x y (top .0) a b agree (λ e. omega (arith, top .2, below-xor x y (top .0) e)) in
+      omega (arith, is, top .1)
+]
 
 -- CUT KEYS
 

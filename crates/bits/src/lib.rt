@@ -23,13 +23,5 @@ pub fn cut(x: u32, h: u32) -> u32
 pub fn part_height(x: u32, y: u32) -> u32
     ensures { λ r. ⌜ r ≡ partHeight x y ⌝ }
 {
-    let mut a = x;
-    let mut b = y;
-    let mut h: u32 = 0;
-    while a != b {
-        a = a / 2;
-        b = b / 2;
-        h = h + 1;
-    }
-    h
+    32 - u32::leading_zeros(x ^ y)
 }
