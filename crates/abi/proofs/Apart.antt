@@ -17,7 +17,7 @@ use Rattle.rules.specs.Verdict.{Verdict, committed, conflict, tooOld, noRoom, m
 use Rattle.rules.specs.Lookup.{Seen, absent, found, find, payloadAt, seen, lookup}
 use Rattle.pool.specs.Image.{Arrangement, Image, Fit, stateOf}
 use Rattle.log.specs.declared.found.Cut.{Cut}
-use Rattle.log.specs.declared.found.Cut.the-variants.{End, Broken, Record}
+use Rattle.log.specs.declared.found.Cut.the-variants.{End, Torn, Impossible, Record}
 use Rattle.log.specs.Log.{cutAt, partOf}
 use Rattle.log.proofs.Stands.{record-tells}
 use Rattle.record_abi.specs.Numbers.{answer}
@@ -83,7 +83,8 @@ lookup-tells m k n x w h =
 -- what the log rule finds at the front is as many of the first bytes as it is long
 front-part : (b : List ℕ) (c : Cut) → cutAt b 0 ≡ c → take (length (partOf c b 0)) (drop 0 b) ≡ partOf c b 0
 front-part b End is = refl
-front-part b Broken is = refl
+front-part b Torn is = refl
+front-part b Impossible is = refl
 front-part b (Record next) is =
     let inside = record-tells b 0 next is .inside in
     ap (λ (j : ℕ). take j (drop 0 b)) (length-take-le (next - 0) (drop 0 b) (omega arith))

@@ -11,7 +11,7 @@ use lib.Dec.{ltb, eqb}
 use borrow.Author.Tests.{ne-eqb, eq-eqb, lt-ltb}
 use denote.Ref.{RefT, now}
 use Rattle.log.specs.declared.found.Cut.{Cut}
-use Rattle.log.specs.declared.found.Cut.the-variants.{End, Broken, Record}
+use Rattle.log.specs.declared.found.Cut.the-variants.{End, Torn, Impossible, Record}
 use Rattle.log.specs.Log.{cutAt, partOf}
 use Rattle.log.proofs.Stands.{record-tells}
 use Rattle.log.proofs.Walk.{sized-at, sized-range}
@@ -43,7 +43,8 @@ module _ (n : ℕ) (o b r : RefT (List ℕ)) (h : InForce (answer n) o b r) wher
   -- a record that it finds is not empty
   filled : (c : Cut) → cutAt (now b) 0 ≡ c → ltb 0 (length (bytesFrom (ifCut c) (now o) (now b))) ≡ inRefreshed (ifCut c)
   filled End f = refl
-  filled Broken f = refl
+  filled Torn f = refl
+  filled Impossible f = refl
   filled (Record next) f =
       let least : 9 ≤ length (partOf (Record next) (now b) 0) = sized-range (sized-at (now b) 0 next (record-tells (now b) 0 next f)) .0 in
       lt-ltb 0 (length (partOf (cutAt (now b) 0) (now b) 0)) (rw f (omega arith))

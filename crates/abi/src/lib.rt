@@ -235,7 +235,8 @@ pub extern "C" fn emuparasol_write(
     answer.number
 }
 
-// What stands at a place of a log: 10 and the same place for a broken log; else 0, with the place past the record, or the same place at the end.
+// What stands at a place of a log: 10 for a torn log and 11 for an impossible length, both with the same place; else 0, with the place past the
+// record, or the same place at the end.
 #[no_mangle]
 pub extern "C" fn emuparasol_cut(log: &[u8], place: usize, next: &mut usize) -> u8
     ensures { λ r. ⌜ CutsAs (now (log .entry)) place (found r (now (next .exit))) ⌝ }

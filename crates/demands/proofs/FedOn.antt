@@ -203,10 +203,10 @@ module _ {N Z : ℕ} {log : List ℕ} {rs : List Fed} {taken : ℕ} {m carry : L
         go wrongCarry e l = none-said _ (l .said) refl
         go stuck e l =
             let t = row-facts stuck carry carried part over e in
-            ends _ Cuts.Broken (l .said) refl refl tt (l .pool) (cannot-stand log (c .place) carried (ap cannotBe (sym (c .carried-are)) ∙ t .1))
+            ends _ Cuts.Impossible (l .said) refl refl tt (l .pool) (cannot-stand log (c .place) carried (ap cannotBe (sym (c .carried-are)) ∙ t .1))
         go cannotGoOn e l =
             let t = row-facts cannotGoOn carry carried part over e in
-            ends _ Cuts.Broken (l .said) refl refl tt (l .pool) (cannot-stand log (c .place) (carried + n) (ap cannotBe (sym (in-front n)) ∙ t .2))
+            ends _ Cuts.Impossible (l .said) refl refl tt (l .pool) (cannot-stand log (c .place) (carried + n) (ap cannotBe (sym (in-front n)) ∙ t .2))
         go recordWhole e d = none-said _ (verdict-said d (fit-answers (d .melds) (card-fit (c .card)))) refl
         go goesOn e l = none-said _ (l .said) refl
         go atEnd e l =
@@ -218,5 +218,5 @@ module _ {N Z : ℕ} {log : List ℕ} {rs : List Fed} {taken : ℕ} {m carry : L
             let t = row-facts torn carry carried part over e in
             let some : length (take (carried + n) (drop (c .place) log)) ≡ 0 → ⊥ =
             λ z. eqb-false (carried + length part) 0 (t .5) (sym size ∙ ap (length {A = ℕ}) (in-front n) ∙ z) in
-            ends _ Cuts.Broken (l .said) refl refl tt (l .pool)
-            (torn-stands log (c .place) (carried + n) (omega (arith, c .taken-is, all (t .4))) (omega (arith, c .taken-is, c .inside)) some (ap wholeIn (sym (in-front n)) ∙ t .3))
+            ends _ Cuts.Torn (l .said) refl refl tt (l .pool)
+            (torn-stands log (c .place) (carried + n) (omega (arith, c .taken-is, all (t .4))) (omega (arith, c .taken-is, c .inside)) some (ap cannotBe (sym (in-front n)) ∙ t .2) (ap wholeIn (sym (in-front n)) ∙ t .3))

@@ -21,5 +21,6 @@ pub mod FedOn
 pub mod Feeding
 pub mod Parts
 pub mod SomeFeeding
+pub mod Torn
 pub mod Reasons
 pub mod Writers

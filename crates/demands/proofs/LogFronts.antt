@@ -1,20 +1,20 @@
 -- What the first bytes from a place of a log on tell of what stands there (R14), by the tests of R47: a whole record among them is the one that
--- stands there; a length that cannot be breaks the log; and so does a record that all the bytes left do not complete.
+-- stands there; a length that cannot be stands there as one; and a record that all the bytes left do not complete is torn.
 -- Assumes nothing.
-use Prim.Native.Nat.{ℕ, _+_, _-_, _≤_, _<_}
-use mathlib.Core.Path.{_≡_, refl, ap, _∙_}
-use mathlib.Core.Logic.{⊎-elim}
+use Prim.Native.Nat.{ℕ, _+_, _-_, _≤_}
+use mathlib.Core.Path.{_≡_, refl, sym, ap, _∙_}
 use mathlib.Core.Bool.{true, false}
 use mathlib.Core.List.{List}
 use native.Mathlib.Omega.{arith}
 use lib.ListN.{length, take, drop, length-take, length-drop}
 use lib.Seq.{take-take}
 use Rattle.words.specs.Laws.{word-drop}
-use Rattle.log.specs.declared.found.Cut.the-variants.{Broken, Record}
-use Rattle.log.specs.Log.{minLength, maxLength, lengthAt, pastAt, cutAt, partOf}
-use Rattle.log.proofs.Stands.{record-found, broken-found}
+use Rattle.log.specs.declared.found.Cut.the-variants.{Torn, Impossible, Record}
+use Rattle.log.specs.Log.{lengthAt, pastAt, impossible, cutAt, partOf}
+use Rattle.log.proofs.Stands.{record-found, torn-found, impossible-found}
+use Rattle.log.proofs.Lengths.{possible-tells}
 use Rattle.pages.specs.Pages.{cannotBe, wholeIn, recordIn}
-use Rattle.pages.proofs.Rows.{impossible-tells, possible-tells, cannot-tells, whole-tells, whole-is, no-both}
+use Rattle.pages.proofs.Rows.{cannot-tells, can-tells, whole-tells, whole-is, no-both}
 use Rattle.pages.proofs.Fronts.{length-take-two, whole-possible}
 
 module _ (log : List ℕ) (place k : ℕ) where
@@ -52,19 +52,18 @@ module _ (log : List ℕ) (place k : ℕ) where
         take-take (pastAt bytes 0) k (drop place log) (omega (arith, size, whole-tells bytes w .1))
         ∙ ap (λ (n : ℕ). take n (drop place log)) e
 
-  -- where a length among them cannot be, the log is broken
-  pub cannot-stand : cannotBe bytes ≡ true → cutAt log place ≡ Broken
+  -- where a length among them cannot be, that is what stands there
+  pub cannot-stand : cannotBe bytes ≡ true → cutAt log place ≡ Impossible
   cannot-stand t =
       let (two, i) = cannot-tells bytes t in
-      broken-found log place (λ e. omega (arith, left, two, e))
-      (λ next r. ⊎-elim (λ (x : lengthAt bytes 0 < minLength). omega (arith, x, said two, r .least)) (λ (x : maxLength < lengthAt bytes 0). omega (arith, x, said two, r .most))
-      (impossible-tells (lengthAt bytes 0) i))
+      impossible-found log place (omega (arith, left, two)) (ap impossible (sym (said two)) ∙ i)
 
-  -- where they are all that is left, are some, and are no whole record, the log is broken too
-  pub torn-stands : length log ≤ place + k → place ≤ length log → (length bytes ≡ 0 → ⊥) → wholeIn bytes ≡ false → cutAt log place ≡ Broken
-  torn-stands all inside some w =
+  -- where they are all that is left, are some, and are neither such a length nor a whole record, the log is torn
+  pub torn-stands : length log ≤ place + k → place ≤ length log → (length bytes ≡ 0 → ⊥) → cannotBe bytes ≡ false → wholeIn bytes ≡ false → cutAt log place ≡ Torn
+  torn-stands all inside some can w =
       let every : length bytes ≡ length log - place = omega (arith, length-take k (drop place log), length-drop place log) in
-      broken-found log place (λ e. some (omega (arith, every, e)))
+      torn-found log place (λ e. some (omega (arith, every, e)))
+      (λ here. let two : 2 ≤ length bytes = omega (arith, every) in ap impossible (sym (said two)) ∙ can-tells bytes can two)
       (λ next r.
       let two : 2 ≤ length bytes = omega (arith, every, r .past, r .inside) in
       no-both (whole-is bytes (omega (arith, every, said two, r .past, r .inside))) w)

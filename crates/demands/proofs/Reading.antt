@@ -11,9 +11,9 @@ use Rattle.words.specs.Laws.{bytes-drop, bytes-take}
 use Rattle.log.specs.declared.found.Cut.{Cut}
 use Rattle.log.specs.declared.found.Cut.the-variants.{Record}
 use Rattle.log.specs.Log.{cutAt, partOf, startOf, CutIs, HandedOut}
-use Rattle.log.specs.Walk.{Walks, ends, breaks, hands}
+use Rattle.log.specs.Walk.{Walks, ends, tears, cannot-be, hands}
 use Rattle.log.proofs.Told.{cut-case}
-use Rattle.log.proofs.Stands.{record-tells, end-not-record, broken-not-record, same-next}
+use Rattle.log.proofs.Stands.{record-tells, end-not-record, torn-not-record, impossible-not-record, same-next}
 use Rattle.pool.specs.Image.{Fit}
 use Rattle.meld.specs.declared.melding.Melded.{Melded}
 use Rattle.meld.specs.Melds.{Melds}
@@ -26,7 +26,8 @@ use Rattle.demands.proofs.Following.{AllBytes, no-bytes, more-bytes}
 -- what the walk hands out
 pub parts-bytes : {log : List ℕ} {place : ℕ} {parts : List (List ℕ)} {last : Cut} → Bytes log → Walks log place parts last → AllBytes parts
 parts-bytes b (ends e) = no-bytes
-parts-bytes b (breaks e) = no-bytes
+parts-bytes b (tears e) = no-bytes
+parts-bytes b (cannot-be e) = no-bytes
 parts-bytes {log = log} {place = place} b (hands {next = next} e w) = more-bytes (bytes-take (next - place) (drop place log) (bytes-drop place log b)) (parts-bytes b w)
 
 -- the first of several
@@ -52,7 +53,8 @@ pub reading-front : {log : List ℕ} {place place′ : ℕ} {m m′ : List ℕ} 
     → ReadingOn log place m xs place′ m′ → Walks log place parts last → Front log place′ m xs m′ parts last
 reading-front so-far w = record { few = omega arith; melding = none-left; rest = w }
 reading-front (ReadingOn.one-more l c h d t) (ends e) = end-not-record (sym e ∙ sym (case c))
-reading-front (ReadingOn.one-more l c h d t) (breaks e) = broken-not-record (sym e ∙ sym (case c))
+reading-front (ReadingOn.one-more l c h d t) (tears e) = torn-not-record (sym e ∙ sym (case c))
+reading-front (ReadingOn.one-more l c h d t) (cannot-be e) = impossible-not-record (sym e ∙ sym (case c))
 reading-front {log = log} {place = place} {m = m} (ReadingOn.one-more {next = next} {m′ = m₁} {a = a} {lent = lent} {part = part} l c h d t) (hands {next = other} {parts = parts} {last = last} e w) =
     let same : other ≡ next = same-next (sym e ∙ sym (case c)) in
     let bytes : now part ≡ partOf (Record other) log place = h .bytes ∙ ap (λ (s : List ℕ). partOf (cutAt s place) s place) l ∙ ap (λ (x : Cut). partOf x log place) e in
@@ -69,7 +71,8 @@ whole-read {log = log} {place = place} {xs = xs} {parts = parts} {c = c} f i o =
 
     go : {last : Cut} (rest : List (List ℕ)) → drop (length xs) parts ≡ rest → Walks log place rest last → (length xs ≡ length parts) × (c ≡ last)
     go rest d (ends e) = (left (ap (length {A = List ℕ}) d), cut-case log place c i ∙ e)
-    go rest d (breaks e) = (left (ap (length {A = List ℕ}) d), cut-case log place c i ∙ e)
+    go rest d (tears e) = (left (ap (length {A = List ℕ}) d), cut-case log place c i ∙ e)
+    go rest d (cannot-be e) = (left (ap (length {A = List ℕ}) d), cut-case log place c i ∙ e)
     go rest d (hands e w) = absurd (subst isOver (cut-case log place c i ∙ e) o)
 
 -- ONE RECORD MORE

@@ -14,7 +14,7 @@ use lib.ListN.{length, drop, length-drop}
 use lib.Seq.{take-append-seam, drop-append-seam}
 use Rattle.words.specs.Word.{Bytes}
 use Rattle.words.specs.Laws.{bytes-take, bytes-drop}
-use Rattle.record.specs.Answer.{committed, unfitPool, outputShort, brokenLog}
+use Rattle.record.specs.Answer.{committed, unfitPool, outputShort, tornLog, impossibleLength}
 use Rattle.record.proofs.Cases.{no-some}
 use Rattle.log.specs.declared.found.Cut.{Cut}
 use Rattle.log.specs.declared.found.Cut.the-variants as Cuts
@@ -49,14 +49,14 @@ over-ends {m} {carry} {carried} {r} {m′} {carry′} s f = go (feedRow carry ca
 
     go : (row : FeedRow) → feedRow carry carried [] true ≡ row → FeedsAs row m carry carried [] r m′ carry′ → (last : Cut) × (endingIn (r .happened) ≡ some last)
     go wrongCarry e l = no-both (may-join carry carried (s .sized) (s .may)) (row-facts wrongCarry carry carried [] true e)
-    go stuck e l = said _ Cuts.Broken (l .said) refl
-    go cannotGoOn e l = said _ Cuts.Broken (l .said) refl
+    go stuck e l = said _ Cuts.Impossible (l .said) refl
+    go cannotGoOn e l = said _ Cuts.Impossible (l .said) refl
     go recordWhole e d =
         let t = row-facts recordWhole carry carried [] true e in
         absurd (omega (arith, record-goes-on s [] (t .1), whole-tells (bytesIn carry carried []) (t .3) .1, length-in s []))
     go goesOn e l = no-both refl (row-facts goesOn carry carried [] true e .4)
     go atEnd e l = said _ Cuts.End (l .said) refl
-    go torn e l = said _ Cuts.Broken (l .said) refl
+    go torn e l = said _ Cuts.Torn (l .said) refl
 
 -- CALL AFTER CALL
 
@@ -101,7 +101,8 @@ module _ (feed : SomeFeed) where
           ⊎-elim (λ (x : 1 ≤ r .taken). x)
           (⊎-elim (λ (x : r .happened ≡ Refused outputShort). absurd (such-never-8 f (k .such) x))
           (⊎-elim (λ (x : r .happened ≡ Refused unfitPool). absurd (fit-never-7 f (k .fit) x))
-          (λ (x : r .happened ≡ Refused brokenLog). no-some (sym e ∙ ap endingIn x)))) (gets-on f (omega arith)) in
+          (⊎-elim (λ (x : r .happened ≡ Refused tornLog). no-some (sym e ∙ ap endingIn x))
+          (λ (x : r .happened ≡ Refused impossibleLength). no-some (sym e ∙ ap endingIn x))))) (gets-on f (omega arith)) in
           let x = more (omega (arith, length-drop (r .taken) (y ∷ part))) in
           record { told = r ∷ x .told; after = x .after; last = x .last; run = goes-on f e (x .run) }
 

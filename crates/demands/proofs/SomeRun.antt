@@ -12,7 +12,7 @@ use Rattle.record.specs.Answer.{committed}
 use Rattle.log.specs.declared.found.Cut.{Cut}
 use Rattle.log.specs.declared.found.Cut.the-variants.{Record}
 use Rattle.log.specs.Log.{partOf, CutIs}
-use Rattle.log.specs.Walk.{Walks, ends, breaks, hands}
+use Rattle.log.specs.Walk.{Walks, ends, tears, cannot-be, hands}
 use Rattle.log.proofs.Walk.{walked}
 use Rattle.pool.specs.Image.{Fit}
 use Rattle.create.specs.Fresh.{Created}
@@ -36,7 +36,9 @@ some-reading : SomeMeld → {log : List ℕ} {place : ℕ} {parts : List (List �
     → (m : List ℕ) → Fit m → SomeReading log place m last
 some-reading meld {log = log} {place = place} b (ends e) m f =
     record { answers = []; stop = place; after = m; reading = so-far; found = subst (CutIs log place) e (cut-is log place); over = tt }
-some-reading meld {log = log} {place = place} b (breaks e) m f =
+some-reading meld {log = log} {place = place} b (tears e) m f =
+    record { answers = []; stop = place; after = m; reading = so-far; found = subst (CutIs log place) e (cut-is log place); over = tt }
+some-reading meld {log = log} {place = place} b (cannot-be e) m f =
     record { answers = []; stop = place; after = m; reading = so-far; found = subst (CutIs log place) e (cut-is log place); over = tt }
 some-reading meld {log = log} {place = place} b (hands {next = next} e w) m f =
     let bytes : List ℕ = partOf (Record next) log place in

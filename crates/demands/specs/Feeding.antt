@@ -8,7 +8,7 @@ use mathlib.Core.List.{List, [], _∷_, _++_}
 use lib.Dec.{eqb}
 use lib.ListN.{length, take, drop}
 use Rattle.words.specs.Choice.{if_then_else_}
-use Rattle.record.specs.Answer.{brokenLog}
+use Rattle.record.specs.Answer.{tornLog, impossibleLength}
 use Rattle.log.specs.declared.found.Cut.{Cut}
 use Rattle.log.specs.declared.found.Cut.the-variants as Cuts
 use Rattle.meld.specs.declared.melding.Melded.{Melded}
@@ -32,10 +32,13 @@ abbrev pub verdictsIn : List Fed → List Melded
 verdictsIn [] = []
 verdictsIn (r ∷ rs) = verdictIn (r .happened) (r .looks) ++ verdictsIn rs
 
--- R49: what a call says of the log's ending: "end", or 10 for a broken log; most calls say nothing of it
+-- R49: what a call says of the log's ending: "end", 10 for a torn log, or 11 for an impossible length; most calls say nothing of it
 abbrev pub endingIn : Happened → Option Cut
 endingIn (Decided a) = none
-endingIn (Refused a) = if eqb (a .number) (brokenLog .number) then some Cuts.Broken else none
+endingIn (Refused a) =
+    if eqb (a .number) (tornLog .number) then some Cuts.Torn else
+    if eqb (a .number) (impossibleLength .number) then some Cuts.Impossible else
+    none
 endingIn More = none
 endingIn End = some Cuts.End
 

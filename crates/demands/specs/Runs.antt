@@ -9,7 +9,7 @@ use denote.Ref.{RefT, now}
 use Rattle.record.specs.Answer.{committed}
 use Rattle.record.specs.Parse.{parse}
 use Rattle.log.specs.declared.found.Cut.{Cut}
-use Rattle.log.specs.declared.found.Cut.the-variants.{End, Broken, Record}
+use Rattle.log.specs.declared.found.Cut.the-variants.{End, Torn, Impossible, Record}
 use Rattle.log.specs.Log.{CutIs, HandedOut}
 use Rattle.rules.specs.State.{State}
 use Rattle.rules.specs.Verdict.{next}
@@ -60,10 +60,11 @@ pub record PoolAt (N Z : ℕ) (log : List ℕ) (q : ℕ) (m : List ℕ) : Type 0
 -- R14: no record was found
 abbrev pub isOver : Cut → Type 0
 isOver End = Unit
-isOver Broken = Unit
+isOver Torn = Unit
+isOver Impossible = Unit
 isOver (Record next) = ⊥
 
--- R15: a card that has melded a whole log: `cut` says "end" or broken where it stands
+-- R15: a card that has melded a whole log: where it stands, `cut` finds no record any more
 pub record Whole (N Z : ℕ) (log : List ℕ) (xs : List Melded) (last : Cut) (m : List ℕ) : Type 0 where
   pub place : ℕ
   pub card : Card N Z log xs place m

@@ -13,7 +13,7 @@ use denote.Enum.Declared.{tagOf}
 use types.Run.{OneOf}
 use Rattle.record.specs.declared.answer.Answer.{Answer}
 use Rattle.log.specs.declared.found.Cut.{Cut}
-use Rattle.log.specs.declared.found.Cut.the-variants.{End, Broken, Record}
+use Rattle.log.specs.declared.found.Cut.the-variants.{End, Torn, Impossible, Record}
 use Rattle.log.specs.Log.{cutAt, partOf, CutIs}
 use Rattle.log.proofs.found.Cut as T
 use Rattle.log.proofs.Told.{cut-case}
@@ -39,13 +39,14 @@ module _ (a : Answer) (o b : RefT (List ℕ)) where
       unfolding sourceOf
       source = simp (ne-eqb _ _ not-ahead, eq-eqb _ _ zero, ← is)
 
-      pub after-zero-none : (γ : GName) → OneOf (0 ∷ 1 ∷ []) (tagOf T.the-type c) → InForce a o b (record { ptr = (ptr o .0, 0 + ptr o .1); name = γ; now = [] })
+      pub after-zero-none : (γ : GName) → OneOf (0 ∷ 1 ∷ 2 ∷ []) (tagOf T.the-type c) → InForce a o b (record { ptr = (ptr o .0, 0 + ptr o .1); name = γ; now = [] })
       after-zero-none γ tag = none γ (source ∙ no-record c tag)
         where
-          no-record : (x : Cut) → OneOf (0 ∷ 1 ∷ []) (tagOf T.the-type x) → ifCut x ≡ Source.nothing
+          no-record : (x : Cut) → OneOf (0 ∷ 1 ∷ 2 ∷ []) (tagOf T.the-type x) → ifCut x ≡ Source.nothing
           no-record End h = refl
-          no-record Broken h = refl
-          no-record (Record n) h = absurd (⊎-elim (λ e. omega arith) (λ e. omega arith) h)
+          no-record Torn h = refl
+          no-record Impossible h = refl
+          no-record (Record n) h = absurd (⊎-elim (λ e. omega arith) (λ k. ⊎-elim (λ e. omega arith) (λ e. omega arith) k) h)
 
       pub after-zero : (γ : GName) (next : ℕ) → c ≡ Record next
           → InForce a o b (record { ptr = (ptr b .0, 0 + ptr b .1); name = γ; now = take (next - 0) (drop 0 (now b)) })

@@ -10,7 +10,7 @@ use Rattle.words.specs.Choice.{if_then_else_}
 use Rattle.record.specs.declared.answer.Answer.{Answer}
 use Rattle.record.specs.Answer.{committed, ahead}
 use Rattle.log.specs.declared.found.Cut.{Cut}
-use Rattle.log.specs.declared.found.Cut.the-variants.{End, Broken, Record}
+use Rattle.log.specs.declared.found.Cut.the-variants.{End, Torn, Impossible, Record}
 use Rattle.log.specs.Log.{cutAt, partOf}
 
 -- R39: which of the two lent slices the record in force is a part of
@@ -22,7 +22,8 @@ pub data Source : Type 0 where
 -- R39: after 0, the record at the front of the refreshed buffer, if R14 finds one there
 abbrev pub ifCut : Cut → Source
 ifCut End = nothing
-ifCut Broken = nothing
+ifCut Torn = nothing
+ifCut Impossible = nothing
 ifCut (Record next) = refreshed
 
 -- R39: by the answer and the refreshed buffer

@@ -4,18 +4,21 @@
 -- Assumes nothing.
 use mathlib.Core.Path.{_≡_, refl, sym, ap, subst, _∙_}
 use Prim.Native.Nat.{ℕ, _+_, _-_, _≤_, _<_}
+use mathlib.Core.Bool.{false}
 use mathlib.Core.List.{List, [], _∷_, _++_}
 use mathlib.Core.Logic.{_⊎_, inl, inr, ⊎-elim}
 use native.Mathlib.Omega.{arith}
 use native.Mathlib.Decide.{decLe}
 use lib.ListN.{length, getD, take, drop, length-append, length-drop}
-use lib.Seq.{getD-take, take-take, length-take-le}
+use lib.Seq.{getD-take, take-take, take-all, length-take-le}
 use Rattle.log.specs.declared.found.Cut.{Cut}
-use Rattle.log.specs.declared.found.Cut.the-variants.{End, Broken, Record}
-use Rattle.log.specs.Log.{cutAt, lengthAt, partOf, RecordAt}
-use Rattle.log.specs.Walk.{Walks, ends, breaks, hands, joined, Agree, CutLog}
-use Rattle.log.proofs.Stands.{record-tells, end-tells, end-found, broken-found}
+use Rattle.log.specs.declared.found.Cut.the-variants.{End, Torn, Impossible, Record}
+use Rattle.log.specs.Log.{cutAt, lengthAt, impossible, partOf, RecordAt}
+use Rattle.log.specs.Walk.{Walks, ends, tears, hands, joined, Agree, CutLog}
+use Rattle.log.proofs.Stands.{record-tells, end-tells, end-found, torn-found, torn-not-impossible, impossible-not-end}
 use Rattle.log.proofs.Same.{same-length, cut-same, part-same}
+use Rattle.log.proofs.Lengths.{possible-is}
+use Rattle.log.proofs.Walk.{walks-once}
 
 -- the theorem's statement from a place on
 record CutFrom (log : List ℕ) (place : ℕ) (parts : List (List ℕ)) (n : ℕ) : Type 0 where
@@ -27,7 +30,7 @@ record CutFrom (log : List ℕ) (place : ℕ) (parts : List (List ℕ)) (n : ℕ
   last : Cut
   walks : Walks (take n log) place before last
   between : place + length (joined before) ≡ n → last ≡ End
-  amid : (place + length (joined before) ≡ n → ⊥) → last ≡ Broken
+  amid : (place + length (joined before) ≡ n → ⊥) → last ≡ Torn
 
 -- how many bytes the part handed out has
 long : (log : List ℕ) (place next : ℕ) → RecordAt log place next → length (partOf (Record next) log place) ≡ next - place
@@ -38,12 +41,18 @@ module _ (log : List ℕ) (n : ℕ) (inside : n ≤ length log) where
   size : length (take n log) ≡ n
   size = length-take-le n log inside
 
+  -- a length that is there is the uncut log's
+  same-there : (place : ℕ) → place + 2 ≤ n → lengthAt (take n log) place ≡ lengthAt log place
+  same-there place two = same-length log (take n log) place n two (record { byte = λ i _ l. getD-take n log i 0 l })
+
+  -- so it is one of a record
+  can-be : (place next : ℕ) → RecordAt log place next → place + 2 ≤ length (take n log) → impossible (lengthAt (take n log) place) ≡ false
+  can-be place next r two = ap impossible (same-there place (omega (arith, two, size))) ∙ possible-is (lengthAt log place) (r .least) (r .most)
+
   -- no record is whole where the uncut log's record runs past the cut
   none-whole : (place next : ℕ) → RecordAt log place next → n < next → (other : ℕ) → RecordAt (take n log) place other → ⊥
   none-whole place next r h other t =
-      let agree : Agree log (take n log) place n = record { byte = λ i _ l. getD-take n log i 0 l } in
-      let same : lengthAt (take n log) place ≡ lengthAt log place = same-length log (take n log) place n (omega (arith, t .past, t .inside, size)) agree in
-      omega (arith, r .past, t .past, t .inside, size)
+      omega (arith, same-there place (omega (arith, t .past, t .inside, size)), r .past, t .past, t .inside, size)
 
   -- nothing is handed out, and the cut is just here
   stops-here : (place : ℕ) (parts : List (List ℕ)) → place ≡ n → ((part : List ℕ) (rest : List (List ℕ)) → parts ≡ part ∷ rest → n < place + length part)
@@ -71,8 +80,8 @@ module _ (log : List ℕ) (n : ℕ) (inside : n ≤ length log) where
         all = refl;
         wholly = omega arith;
         first-is-not = λ part rest c. let e : partOf (Record next) log place ≡ part = cc in omega (arith, ap (length {A = ℕ}) e, long log place next r);
-        last = Broken;
-        walks = breaks (broken-found (take n log) place (λ e. omega (arith, size)) (none-whole place next r over));
+        last = Torn;
+        walks = tears (torn-found (take n log) place (λ e. omega (arith, size)) (can-be place next r) (none-whole place next r over));
         between = λ here. absurd (omega arith);
         amid = λ _. refl;
       }
@@ -139,3 +148,22 @@ cut-log log parts n w h =
       between = λ e. c .between (omega arith);
       amid = λ off. c .amid (λ e. off (omega arith));
     }
+
+-- and 11 is never said, wherever it is cut
+pub cut-never-impossible : (log : List ℕ) (parts : List (List ℕ)) (n : ℕ) → Walks log 0 parts End → (others : List (List ℕ)) (last : Cut)
+    → Walks (take n log) 0 others last → last ≡ Impossible → ⊥
+cut-never-impossible log parts n w others last v i = elim (decLe n (length log)) [ yes h ↦ inside h | no h ↦ outside (omega arith) ]
+  where
+    -- the cut lies in the log: it ends with "end" or torn
+    inside : n ≤ length log → ⊥
+    inside h =
+        let c : CutLog log parts n = cut-log log parts n w h in
+        let e : c .last ≡ Impossible = walks-once (c .walks) others last v .1 ∙ i in
+        elim (decLe n (length (joined (c .before)))) [
+          | yes l ↦ impossible-not-end (sym e ∙ c .between (omega (arith, c .wholly)))
+          | no l ↦ torn-not-impossible (sym (c .amid (λ here. l (omega arith))) ∙ e)
+        ]
+
+    -- it lies at its end or past it: the log is the whole one
+    outside : length log ≤ n → ⊥
+    outside h = impossible-not-end (sym i ∙ walks-once v parts End (subst (λ (l : List ℕ). Walks l 0 parts End) (sym (take-all n log h)) w) .1)

@@ -11,7 +11,7 @@ use denote.Ref.{RefT, now, ptr}
 use denote.Enum.Declared.{tagOf}
 use types.Run.{OneOf}
 use Rattle.log.specs.declared.found.Cut.{Cut}
-use Rattle.log.specs.declared.found.Cut.the-variants.{End, Broken, Record}
+use Rattle.log.specs.declared.found.Cut.the-variants.{End, Torn, Impossible, Record}
 use Rattle.log.specs.Log.{cutAt, partOf, startOf, HandedOut, RecordAt}
 use Rattle.log.proofs.found.Cut as T
 use Rattle.log.proofs.Stands.{record-tells}
@@ -22,7 +22,7 @@ stands log place next c is found = record-tells log place next (sym is ∙ found
 
 module _ (log : RefT (List ℕ)) (place : ℕ) (c : Cut) (is : c ≡ cutAt (now log) place) (γ : GName) where
   -- where `let .. else` goes on with none of the named variant, what is known is the tag
-  pub hands-none : OneOf (0 ∷ 1 ∷ []) (tagOf T.the-type c) → HandedOut log place (record { ptr = (ptr log .0, 0 + ptr log .1); name = γ; now = [] })
+  pub hands-none : OneOf (0 ∷ 1 ∷ 2 ∷ []) (tagOf T.the-type c) → HandedOut log place (record { ptr = (ptr log .0, 0 + ptr log .1); name = γ; now = [] })
   hands-none tag =
       record {
         bytes = sym (ap (λ (x : Cut). partOf x (now log) place) (sym is) ∙ no-part c tag);
@@ -30,15 +30,17 @@ module _ (log : RefT (List ℕ)) (place : ℕ) (c : Cut) (is : c ≡ cutAt (now 
         start = omega (arith, ap (λ (x : Cut). startOf x place) (sym is) ∙ no-start c tag);
       }
     where
-      no-part : (x : Cut) → OneOf (0 ∷ 1 ∷ []) (tagOf T.the-type x) → partOf x (now log) place ≡ []
+      no-part : (x : Cut) → OneOf (0 ∷ 1 ∷ 2 ∷ []) (tagOf T.the-type x) → partOf x (now log) place ≡ []
       no-part End h = refl
-      no-part Broken h = refl
-      no-part (Record n) h = absurd (⊎-elim (λ e. omega arith) (λ e. omega arith) h)
+      no-part Torn h = refl
+      no-part Impossible h = refl
+      no-part (Record n) h = absurd (⊎-elim (λ e. omega arith) (λ k. ⊎-elim (λ e. omega arith) (λ e. omega arith) k) h)
 
-      no-start : (x : Cut) → OneOf (0 ∷ 1 ∷ []) (tagOf T.the-type x) → startOf x place ≡ 0
+      no-start : (x : Cut) → OneOf (0 ∷ 1 ∷ 2 ∷ []) (tagOf T.the-type x) → startOf x place ≡ 0
       no-start End h = refl
-      no-start Broken h = refl
-      no-start (Record n) h = absurd (⊎-elim (λ e. omega arith) (λ e. omega arith) h)
+      no-start Torn h = refl
+      no-start Impossible h = refl
+      no-start (Record n) h = absurd (⊎-elim (λ e. omega arith) (λ k. ⊎-elim (λ e. omega arith) (λ e. omega arith) k) h)
 
   -- the bytes from the first to the last of them, where those are the record's
   pub hands-record : (next : ℕ) → c ≡ Record next → (first last : ℕ) → first ≡ place → last ≡ next

@@ -1,5 +1,6 @@
 mod Cases
 mod Handed
+pub mod Lengths
 pub mod Stands
 pub mod Told
 pub mod Same
@@ -7,4 +8,5 @@ pub mod Walk
 pub mod Step
 pub mod CutLog
 pub mod Between
+pub mod Before
 pub mod Only

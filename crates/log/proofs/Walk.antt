@@ -9,11 +9,11 @@ use lib.ListN.{length, getD, take, drop, length-append, length-drop, take-append
 use lib.Seq.{getD-take, getD-drop, drop-drop, length-take-le, drop-append-seam, take-append-seam}
 use Rattle.words.specs.Laws.{word-same}
 use Rattle.log.specs.declared.found.Cut.{Cut}
-use Rattle.log.specs.declared.found.Cut.the-variants.{End, Broken, Record}
+use Rattle.log.specs.declared.found.Cut.the-variants.{End, Torn, Impossible, Record}
 use Rattle.log.specs.Log.{cutAt, lengthAt, partOf, RecordAt}
-use Rattle.log.specs.Walk.{Walks, HasWalk, ends, breaks, hands, joined}
+use Rattle.log.specs.Walk.{Walks, HasWalk, ends, tears, cannot-be, hands, joined}
 use Rattle.log.specs.PartSized.{PartSized, PartsSized, no-part, one-more}
-use Rattle.log.proofs.Stands.{record-tells, end-tells, end-found, end-not-record, broken-not-record, broken-not-end, same-next}
+use Rattle.log.proofs.Stands.{record-tells, end-tells, end-found, end-not-record, torn-not-record, impossible-not-record, same-next}
 use Rattle.log.proofs.Same.{cut-here}
 
 -- EVERY LOG HAS A WALK
@@ -21,7 +21,8 @@ use Rattle.log.proofs.Same.{cut-here}
 -- one step of it, where the rest is had wherever a record stands
 walked-step : (log : List ℕ) (place : ℕ) → ((next : ℕ) → RecordAt log place next → HasWalk log next) → (c : Cut) → cutAt log place ≡ c → HasWalk log place
 walked-step log place rest End e = record { parts = []; last = End; walks = ends e }
-walked-step log place rest Broken e = record { parts = []; last = Broken; walks = breaks e }
+walked-step log place rest Torn e = record { parts = []; last = Torn; walks = tears e }
+walked-step log place rest Impossible e = record { parts = []; last = Impossible; walks = cannot-be e }
 walked-step log place rest (Record next) e =
     let w : HasWalk log next = rest next (record-tells log place next e) in
     record { parts = partOf (Record next) log place ∷ w .parts; last = w .last; walks = hands e (w .walks) }
@@ -37,17 +38,23 @@ walked log place = walked-within log (suc (length log)) place (omega arith)
 
 -- AND ONLY ONE
 
+-- where no record stands, a walk hands nothing out and ends with what stands there
+pub walk-stops : {log : List ℕ} {place : ℕ} {parts : List (List ℕ)} {last : Cut} → Walks log place parts last → (c : Cut) → cutAt log place ≡ c
+    → ((next : ℕ) → c ≡ Record next → ⊥) → (parts ≡ []) × (last ≡ c)
+walk-stops (ends d) c e no-record = (refl, sym d ∙ e)
+walk-stops (tears d) c e no-record = (refl, sym d ∙ e)
+walk-stops (cannot-be d) c e no-record = (refl, sym d ∙ e)
+walk-stops (hands {next = next} d v) c e no-record = absurd (no-record next (sym e ∙ d))
+
 -- two walks from one place hand out the same parts and end alike
 pub walks-once : {log : List ℕ} {place : ℕ} {parts : List (List ℕ)} {last : Cut} → Walks log place parts last
     → (others : List (List ℕ)) (end : Cut) → Walks log place others end → (parts ≡ others) × (last ≡ end)
-walks-once (ends e) _ _ (ends d) = (refl, refl)
-walks-once (ends e) _ _ (breaks d) = broken-not-end (sym d ∙ e)
-walks-once (ends e) _ _ (hands d v) = end-not-record (sym e ∙ d)
-walks-once (breaks e) _ _ (ends d) = broken-not-end (sym e ∙ d)
-walks-once (breaks e) _ _ (breaks d) = (refl, refl)
-walks-once (breaks e) _ _ (hands d v) = broken-not-record (sym e ∙ d)
+walks-once (ends e) others end v = let (p, q) = walk-stops v End e (λ n. end-not-record) in (sym p, sym q)
+walks-once (tears e) others end v = let (p, q) = walk-stops v Torn e (λ n. torn-not-record) in (sym p, sym q)
+walks-once (cannot-be e) others end v = let (p, q) = walk-stops v Impossible e (λ n. impossible-not-record) in (sym p, sym q)
 walks-once (hands e w) _ _ (ends d) = end-not-record (sym d ∙ e)
-walks-once (hands e w) _ _ (breaks d) = broken-not-record (sym d ∙ e)
+walks-once (hands e w) _ _ (tears d) = torn-not-record (sym d ∙ e)
+walks-once (hands e w) _ _ (cannot-be d) = impossible-not-record (sym d ∙ e)
 walks-once {log = log} {place = place} (hands {next = next} {parts = parts} {last = last} e w) _ _ (hands {next = other} {parts = others} {last = end} d v) =
     let same : other ≡ next = same-next (sym d ∙ e) in
     let (p, q) = walks-once w others end (subst (λ (n : ℕ). Walks log n others end) same v) in
@@ -72,7 +79,8 @@ sized-at log place next r =
 -- and so in a whole walk
 pub walks-sized : {log : List ℕ} {place : ℕ} {parts : List (List ℕ)} {last : Cut} → Walks log place parts last → PartsSized parts
 walks-sized (ends e) = no-part
-walks-sized (breaks e) = no-part
+walks-sized (tears e) = no-part
+walks-sized (cannot-be e) = no-part
 walks-sized {log = log} {place = place} (hands {next = next} e w) = one-more (sized-at log place next (record-tells log place next e)) (walks-sized w)
 
 -- R8: 9 to 905 bytes

@@ -1,3 +1,4 @@
 pub mod Log
 pub mod Walk
 pub mod PartSized
+pub mod Before

@@ -11,9 +11,9 @@ use denote.Ref.{RefT, now, ptr}
 use Rattle.words.specs.Choice.{if_then_else_, valueOr}
 use Rattle.words.specs.Word.{word}
 use Rattle.record.specs.declared.answer.Answer.{Answer}
-use Rattle.record.specs.Answer.{brokenLog}
+use Rattle.record.specs.Answer.{tornLog, impossibleLength}
 use Rattle.log.specs.declared.found.Cut.{Cut}
-use Rattle.log.specs.declared.found.Cut.the-variants.{End, Broken, Record}
+use Rattle.log.specs.declared.found.Cut.the-variants.{End, Torn, Impossible, Record}
 
 -- R14: the least length of a record that can be cut out
 abbrev pub minLength : ℕ
@@ -35,12 +35,17 @@ pastAt log place = place + 2 + lengthAt log place
 abbrev pub endsAt : List ℕ → ℕ → Bool
 endsAt log place = eqb place (length log)
 
--- R14, the row of 10, said of a place that is not exactly at the end: past it, fewer than two bytes left, a length that cannot be, a record
--- that runs past the end
-abbrev pub brokenAt : List ℕ → ℕ → Bool
-brokenAt log place =
-    ltb (length log) (place + 2) || ltb (length log) place || ltb (lengthAt log place) minLength || ltb maxLength (lengthAt log place)
-    || ltb (length log) (pastAt log place)
+-- R14: fewer than two bytes are left at the place, as at every place past the end
+abbrev pub noLengthAt : List ℕ → ℕ → Bool
+noLengthAt log place = ltb (length log) (place + 2)
+
+-- R14: a length that no record has
+abbrev pub impossible : ℕ → Bool
+impossible n = ltb n minLength || ltb maxLength n
+
+-- R14: the record would run past the end
+abbrev pub runsPast : List ℕ → ℕ → Bool
+runsPast log place = ltb (length log) (pastAt log place)
 
 -- a whole record stands at the place, and next is the place past it (R14): its length is from 7 to 903, and it does not run past the end
 pub record RecordAt (log : List ℕ) (place next : ℕ) : Type 0 where
@@ -53,7 +58,9 @@ pub record RecordAt (log : List ℕ) (place next : ℕ) : Type 0 where
 unfoldable pub cutAt : List ℕ → ℕ → Cut
 cutAt log place =
     if endsAt log place then End else
-    if brokenAt log place then Broken else
+    if noLengthAt log place then Torn else
+    if impossible (lengthAt log place) then Impossible else
+    if runsPast log place then Torn else
     Record (pastAt log place)
 
 -- what is told of a place (R14): the answer, where the rules have a number for it, and the place past the record, where one is handed out
@@ -61,26 +68,30 @@ pub record CutTold : Type 0 where
   pub answer : Option Answer
   pub past : Option ℕ
 
--- R3, of each case: "end" has no number and hands nothing out; a broken log is 10; a record has no number, and its place past it is told
+-- R3, of each case: "end" has no number and hands nothing out; a torn log is 10, an impossible length 11; a record has no number, and its place
+-- past it is told
 abbrev pub cutTold : Cut → CutTold
 cutTold End = record { answer = none; past = none }
-cutTold Broken = record { answer = some brokenLog; past = none }
+cutTold Torn = record { answer = some tornLog; past = none }
+cutTold Impossible = record { answer = some impossibleLength; past = none }
 cutTold (Record next) = record { answer = none; past = some next }
 
 -- R14: what `cut` promises of its answer
 pub record CutIs (log : List ℕ) (place : ℕ) (r : Cut) : Type 0 where
   pub told : cutTold r ≡ cutTold (cutAt log place)
 
--- R15: the part handed out: a record's bytes, and none at the end or in a broken log
+-- R15: the part handed out: a record's bytes, and none where there is no record
 abbrev pub partOf : Cut → List ℕ → ℕ → List ℕ
 partOf End log place = []
-partOf Broken log place = []
+partOf Torn log place = []
+partOf Impossible log place = []
 partOf (Record next) log place = take (next - place) (drop place log)
 
 -- R15: where the part handed out starts, counted from the log's first byte: a record at its place, the empty part at 0
 abbrev pub startOf : Cut → ℕ → ℕ
 startOf End place = 0
-startOf Broken place = 0
+startOf Torn place = 0
+startOf Impossible place = 0
 startOf (Record next) place = place
 
 -- R15: the slice r is the part handed out at a place of the lent log: its bytes, and where it lies, in the log's own memory

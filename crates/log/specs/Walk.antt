@@ -5,13 +5,14 @@ use mathlib.Core.Path.{_≡_}
 use mathlib.Core.List.{List, [], _∷_, _++_}
 use lib.ListN.{length, getD, take}
 use Rattle.log.specs.declared.found.Cut.{Cut}
-use Rattle.log.specs.declared.found.Cut.the-variants.{End, Broken, Record}
+use Rattle.log.specs.declared.found.Cut.the-variants.{End, Torn, Impossible, Record}
 use Rattle.log.specs.Log.{cutAt, partOf}
 
--- R15: steps from a place on: the parts handed out, in order, and how it ends, at the end or broken
+-- R15: steps from a place on: the parts handed out, in order, and how it ends: at the end, torn, or at an impossible length
 pub data Walks (log : List ℕ) : ℕ → List (List ℕ) → Cut → Type 0 where
   ends : {place : ℕ} → cutAt log place ≡ End → Walks log place [] End
-  breaks : {place : ℕ} → cutAt log place ≡ Broken → Walks log place [] Broken
+  tears : {place : ℕ} → cutAt log place ≡ Torn → Walks log place [] Torn
+  cannot-be : {place : ℕ} → cutAt log place ≡ Impossible → Walks log place [] Impossible
   hands : {place next : ℕ} {parts : List (List ℕ)} {last : Cut} → cutAt log place ≡ Record next → Walks log next parts last
       → Walks log place (partOf (Record next) log place ∷ parts) last
 
@@ -49,4 +50,4 @@ pub record CutLog (log : List ℕ) (parts : List (List ℕ)) (n : ℕ) : Type 0 
   pub walks : Walks (take n log) 0 before last
   -- then "end" if the cut is between two records or at either end of the log, and else 10
   pub between : length (joined before) ≡ n → last ≡ End
-  pub amid : (length (joined before) ≡ n → ⊥) → last ≡ Broken
+  pub amid : (length (joined before) ≡ n → ⊥) → last ≡ Torn

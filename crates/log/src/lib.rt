@@ -2,13 +2,13 @@
 ghost use Rattle.log.specs.Log.{CutIs, HandedOut};
 
 pub mod found;
+pub mod length;
 
 pub use found::Cut;
-use record::limits::MAX_LENGTH;
-use record::limits::MIN_LENGTH;
+pub use length::is_impossible;
 use words::word2;
 
-// What stands at `place`, for any log and any place: a place past the end is broken.
+// What stands at `place`, for any log and any place: past the end the log is torn.
 pub fn cut(log: &[u8], place: usize) -> Cut
     ensures { λ r. ⌜ CutIs (now (log .entry)) place r ⌝ }
 {
@@ -16,21 +16,18 @@ pub fn cut(log: &[u8], place: usize) -> Cut
         return Cut::End;
     }
     if log.len() < place {
-        return Cut::Broken;
+        return Cut::Torn;
     }
     let left = log.len() - place;
     if left < 2 {
-        return Cut::Broken;
+        return Cut::Torn;
     }
     let length = word2(log, place) as usize;
-    if length < MIN_LENGTH {
-        return Cut::Broken;
-    }
-    if MAX_LENGTH < length {
-        return Cut::Broken;
+    if is_impossible(length) {
+        return Cut::Impossible;
     }
     if left < 2 + length {
-        return Cut::Broken;
+        return Cut::Torn;
     }
     Cut::Record(place + 2 + length)
 }

@@ -20,7 +20,7 @@ abbrev pub PlaceIs : LogReader → ℕ → Type 0
 PlaceIs reader n = n ≡ reader .place
 
 -- one step: what stands at the reader's place, the part handed out there, the same lent log afterwards, and the place afterwards,
--- past a record and "with "end" or 10 .. unchanged"
+-- past a record, and unchanged with "end", 10 and 11
 pub record Stepped (before after : LogReader) (r : Step) : Type 0 where
   pub found : CutIs (now (before .log)) (before .place) (r .found)
   pub part : HandedOut (before .log) (before .place) (r .part)

@@ -30,7 +30,8 @@ fn place_after(found: Cut, place: usize) -> usize
 {
     match found {
         Cut::End => place,
-        Cut::Broken => place,
+        Cut::Torn => place,
+        Cut::Impossible => place,
         Cut::Record(next) => next,
     }
 }
@@ -50,8 +51,8 @@ impl<'a> LogReader<'a> {
         self.place
     }
 
-    // One step: at a record the part handed out is that record and the reader moves past it; at the end and in a broken log
-    // the part is empty and the reader stays.
+    // One step: at a record the part handed out is that record and the reader moves past it; at the end, in a torn log
+    // and at an impossible length the part is empty and the reader stays.
     pub fn step<'s>(&'s mut self) -> Step<'a>
         ensures { λ r. ⌜ Stepped (now (self .entry)) (now (self .exit)) r ⌝ }
     {

@@ -12,13 +12,13 @@ use lib.Dec.{eqb}
 use lib.ListN.{length, take, drop, take-append-drop}
 use lib.Seq.{length-take-le, take-all}
 use Rattle.words.specs.Choice.{if_then_else_}
-use Rattle.record.specs.Answer.{outputShort, brokenLog}
+use Rattle.record.specs.Answer.{outputShort, impossibleLength}
 use Rattle.record.specs.Reader.{front}
 use Rattle.record.proofs.Cases.{by-case}
-use Rattle.log.specs.Log.{lengthAt, pastAt}
+use Rattle.log.specs.Log.{lengthAt, pastAt, impossible}
 use Rattle.pages.specs.declared.told.Happened.the-variants.{Refused, More}
 use Rattle.pages.specs.declared.told.Fed.{Fed}
-use Rattle.pages.specs.Pages.{carrySize, impossible, mayCarry, bytesIn, cannotBe, wholeIn, recordIn, feedRow, undecided, refusing, isUnfit}
+use Rattle.pages.specs.Pages.{carrySize, mayCarry, bytesIn, cannotBe, wholeIn, recordIn, feedRow, undecided, refusing, isUnfit}
 use Rattle.pages.specs.Pages.{FeedRow, wrongCarry, stuck, cannotGoOn, recordWhole, goesOn, atEnd, torn, FeedsAs, Feeds}
 use Rattle.pages.proofs.Rows.{row-facts, row-is, no-both, cannot-tells, cannot-is, can-tells, can-is, not-whole-tells, not-whole-is, may-tells, may-few, may-stuck, may-amid, may-split, may-join}
 use Rattle.pages.proofs.Fronts.{Such, held, length-in, length-take-two, length-append-two, length-front, record-size, record-fits, begun-fits}
@@ -140,9 +140,9 @@ left-by-some m carry carried before sized may room rest =
     stops : cannotBe xs ≡ true → carried ≡ 2 → (r : Fed) × Feeds m before 0 xs false r m carry × (r .carried ≡ carried)
     stops t two =
         let row : feedRow before 0 xs false ≡ cannotGoOn = row-is cannotGoOn before 0 xs false (passes, none-yet, t) in (
-          undecided (Refused brokenLog) (2 - 0) 2,
+          undecided (Refused impossibleLength) (2 - 0) 2,
           record {
-            as-said = subst (λ (x : FeedRow). FeedsAs x m before 0 xs (undecided (Refused brokenLog) (2 - 0) 2) m carry) (sym row)
+            as-said = subst (λ (x : FeedRow). FeedsAs x m before 0 xs (undecided (Refused impossibleLength) (2 - 0) 2) m carry) (sym row)
                 (record { said = refl; pool = refl; carry-is = sym (becomes (take 2 xs) (take-all 2 xs (omega (arith, size)))) });
           },
           sym two,

@@ -12,9 +12,10 @@ use lib.ListN.{length, take, drop, length-append, length-drop, List·getD-append
 use lib.Seq.{getD-take, length-take-le}
 use Rattle.words.specs.Laws.{word-same}
 use Rattle.record.specs.Reader.{front}
-use Rattle.log.specs.Log.{lengthAt, pastAt}
-use Rattle.pages.specs.Pages.{carrySize, impossible, mayCarry, bytesIn, cannotBe, wholeIn, recordIn}
-use Rattle.pages.proofs.Rows.{possible-tells, cannot-is, can-tells, cannot-tells, whole-tells, not-whole-tells, may-tells, may-split, no-both}
+use Rattle.log.specs.Log.{lengthAt, pastAt, impossible}
+use Rattle.log.proofs.Lengths.{possible-tells}
+use Rattle.pages.specs.Pages.{carrySize, mayCarry, bytesIn, cannotBe, wholeIn, recordIn}
+use Rattle.pages.proofs.Rows.{cannot-is, can-tells, cannot-tells, whole-tells, not-whole-tells, may-tells, may-split, no-both}
 
 -- THE LENGTH THAT TWO BYTES SAY
 

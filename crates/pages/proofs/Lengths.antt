@@ -12,20 +12,14 @@ use lib.Seq.{length-take-le, getD-take, getD-append-add}
 use Rattle.words.specs.Choice.{if_then_else_}
 use Rattle.words.specs.Word.{word}
 use Rattle.words.specs.Laws.{word-same}
-use Rattle.log.specs.Log.{lengthAt, pastAt}
+use Rattle.log.specs.Log.{lengthAt, pastAt, impossible}
 use Rattle.pages.specs.declared.carry.Begun.{Begun}
 use Rattle.pages.specs.declared.carry.Begun.the-variants.{Short, Impossible, Sized}
-use Rattle.pages.specs.Pages.{carrySize, impossible, mayCarry, bytesIn}
+use Rattle.pages.specs.Pages.{carrySize, mayCarry, bytesIn}
 use Rattle.pages.specs.Steps.{sizedBy, begunIn}
 use Rattle.pages.proofs.Stored.{length-in}
 
 -- A LENGTH
-
-pub too-short : (n : ℕ) → n < 7 → true ≡ impossible n
-too-short n h = sym (ap (λ (b : Bool). b || ltb 903 n) (lt-ltb n 7 h))
-
-pub not-short : (n : ℕ) → 7 ≤ n → ltb 903 n ≡ impossible n
-not-short n h = sym (ap (λ (b : Bool). b || ltb 903 n) (le-ltb n 7 h))
 
 -- what a length says, by whether it can be
 pub says-impossible : (n : ℕ) (b : Bool) → b ≡ impossible n → b ≡ true → Impossible ≡ sizedBy n

@@ -5,6 +5,7 @@ pub mod Carries
 pub mod Progress
 pub mod Only
 pub mod Refusals
+pub mod Endings
 pub mod CarryBytes
 mod Lengths
 mod Stored

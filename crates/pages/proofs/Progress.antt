@@ -1,5 +1,5 @@
 -- A call takes no more than it is lent (`takes-within`), and a caller gets on (`gets-on`): a call that is lent a byte takes one at least,
--- unless it says 8, 7 or 10 (R49).
+-- unless it says 8, 7, 10 or 11 (R49).
 -- Assumes nothing.
 use Prim.Native.Nat.{ℕ, _+_, _≤_}
 use mathlib.Core.Path.{_≡_, refl}
@@ -9,7 +9,7 @@ use mathlib.Core.List.{List}
 use native.Mathlib.Omega.{arith}
 use lib.ListN.{length, take, length-append, length-take}
 use borrow.Author.Tests.{eqb-true}
-use Rattle.record.specs.Answer.{unfitPool, outputShort, brokenLog}
+use Rattle.record.specs.Answer.{unfitPool, outputShort, tornLog, impossibleLength}
 use Rattle.record.proofs.Cases.{by-case}
 use Rattle.pages.specs.declared.told.Happened.the-variants.{Refused}
 use Rattle.pages.specs.declared.told.Fed.{Fed}
@@ -43,16 +43,16 @@ module _ {m carry : List ℕ} {carried : ℕ} {part : List ℕ} {over : Bool} {r
       go atEnd e l = omega (arith, taken-is (l .said))
       go torn e l = omega (arith, taken-is (l .said))
 
-  -- a call that is lent a byte takes one, or says 8, 7 or 10
+  -- a call that is lent a byte takes one, or says 8, 7, 10 or 11
   pub gets-on : 1 ≤ length part
-      → (1 ≤ r .taken) ⊎ ((r .happened ≡ Refused outputShort) ⊎ ((r .happened ≡ Refused unfitPool) ⊎ (r .happened ≡ Refused brokenLog)))
+      → (1 ≤ r .taken) ⊎ ((r .happened ≡ Refused outputShort) ⊎ ((r .happened ≡ Refused unfitPool) ⊎ ((r .happened ≡ Refused tornLog) ⊎ (r .happened ≡ Refused impossibleLength))))
   gets-on some = go (feedRow carry carried part over) refl (f .as-said)
     where
       go : (row : FeedRow) → feedRow carry carried part over ≡ row → FeedsAs row m carry carried part r m′ carry′
-          → (1 ≤ r .taken) ⊎ ((r .happened ≡ Refused outputShort) ⊎ ((r .happened ≡ Refused unfitPool) ⊎ (r .happened ≡ Refused brokenLog)))
+          → (1 ≤ r .taken) ⊎ ((r .happened ≡ Refused outputShort) ⊎ ((r .happened ≡ Refused unfitPool) ⊎ ((r .happened ≡ Refused tornLog) ⊎ (r .happened ≡ Refused impossibleLength))))
       go wrongCarry e l = inr (inl (happened-is (l .said)))
-      go stuck e l = inr (inr (inr (happened-is (l .said))))
-      go cannotGoOn e l = inr (inr (inr (happened-is (l .said))))
+      go stuck e l = inr (inr (inr (inr (happened-is (l .said)))))
+      go cannotGoOn e l = inr (inr (inr (inr (happened-is (l .said)))))
       go recordWhole e d =
           let t = row-facts recordWhole carry carried part over e in
           let on = record-goes-on (such-lent carry carried (t .0)) part (t .1) in
@@ -60,4 +60,4 @@ module _ {m carry : List ℕ} {carried : ℕ} {part : List ℕ} {over : Bool} {r
           inl (omega (arith, verdict-taken d u (omega (arith, on)), on))
       go goesOn e l = inl (omega (arith, taken-is (l .said)))
       go atEnd e l = absurd (omega (arith, eqb-true (carried + length part) 0 (row-facts atEnd carry carried part over e .5)))
-      go torn e l = inr (inr (inr (happened-is (l .said))))
+      go torn e l = inr (inr (inr (inl (happened-is (l .said)))))

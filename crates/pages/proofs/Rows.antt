@@ -12,9 +12,9 @@ use lib.ListN.{length, take}
 use borrow.Author.Tests.{ltb-true, ltb-false, eqb-true, lt-ltb, le-ltb, eq-eqb}
 use Rattle.words.specs.Choice.{if_then_else_}
 use Rattle.record.proofs.Cases.{by-case}
-use Rattle.log.specs.Log.{minLength, maxLength, lengthAt, pastAt}
+use Rattle.log.specs.Log.{lengthAt, pastAt, impossible}
 use Rattle.pages.specs.Pages.{FeedRow, wrongCarry, stuck, cannotGoOn, recordWhole, goesOn, atEnd, torn}
-use Rattle.pages.specs.Pages.{carrySize, impossible, mayCarry, bytesIn, cannotBe, wholeIn, feedRow}
+use Rattle.pages.specs.Pages.{carrySize, mayCarry, bytesIn, cannotBe, wholeIn, feedRow}
 
 -- A CHOICE BY SIX TESTS
 
@@ -97,21 +97,6 @@ not-both false b e t = no-both t refl
 flipped : (b : Bool) → not b ≡ true → b ≡ false
 flipped true e = no-both e refl
 flipped false e = refl
-
--- a length that no record has
-pub impossible-tells : (n : ℕ) → impossible n ≡ true → (n < minLength) ⊎ (maxLength < n)
-impossible-tells n e =
-    by-case (ltb n minLength) (λ t. inl (ltb-true n minLength t)) λ f.
-    inr (ltb-true maxLength n (simp f at e))
-
--- and one that a record may have
-pub possible-tells : (n : ℕ) → impossible n ≡ false → (minLength ≤ n) × (n ≤ maxLength)
-possible-tells n e =
-    by-case (ltb n minLength) (λ t. no-both refl (simp t at e)) λ f.
-    (ltb-false n minLength f, ltb-false maxLength n (simp f at e))
-
-pub possible-is : (n : ℕ) → minLength ≤ n → n ≤ maxLength → impossible n ≡ false
-possible-is n l h = simp (le-ltb n minLength l, le-ltb maxLength n h)
 
 -- two bytes are there, and the length that they say cannot be
 pub cannot-tells : (bytes : List ℕ) → cannotBe bytes ≡ true → (2 ≤ length bytes) × (impossible (lengthAt bytes 0) ≡ true)

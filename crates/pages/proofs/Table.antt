@@ -12,18 +12,19 @@ use lib.Dec.{ltb, eqb}
 use lib.ListN.{length, take, drop, take-append-drop}
 use lib.Seq.{length-take-le, take-append-le, take-take}
 use Rattle.words.specs.Choice.{if_then_else_}
-use Rattle.record.specs.Answer.{outputShort, brokenLog}
+use Rattle.record.specs.Answer.{outputShort, impossibleLength}
 use Rattle.record.specs.Reader.{front}
 use Rattle.record.proofs.Cases.{by-case}
-use Rattle.log.specs.Log.{lengthAt, pastAt}
+use Rattle.log.specs.Log.{lengthAt, pastAt, impossible}
+use Rattle.log.proofs.Lengths.{possible-tells}
 use Rattle.pages.specs.declared.carry.Begun.{Begun}
 use Rattle.pages.specs.declared.carry.Begun.the-variants.{Short, Impossible, Sized}
 use Rattle.pages.specs.declared.told.Happened.the-variants.{Refused}
 use Rattle.pages.specs.declared.told.Fed.{Fed}
-use Rattle.pages.specs.Pages.{impossible, bytesIn, cannotBe, wholeIn, FeedRow, wrongCarry, stuck, cannotGoOn, recordWhole, goesOn, atEnd, torn, feedRow}
+use Rattle.pages.specs.Pages.{bytesIn, cannotBe, wholeIn, FeedRow, wrongCarry, stuck, cannotGoOn, recordWhole, goesOn, atEnd, torn, feedRow}
 use Rattle.pages.specs.Pages.{undecided, refusing, RecordDecided, FeedsAs, Feeds}
 use Rattle.pages.specs.Steps.{begunIn, waitRow, LengthIn, KeepsLength, Complete}
-use Rattle.pages.proofs.Rows.{row-is, possible-tells, cannot-is, can-is, whole-is, not-whole-is, may-split, may-tells, no-both}
+use Rattle.pages.proofs.Rows.{row-is, cannot-is, can-is, whole-is, not-whole-is, may-split, may-tells, no-both}
 use Rattle.pages.proofs.Fronts.{Such, carried-few, held, length-in, said-in, length-take-two}
 use Rattle.pages.proofs.Lengths.{allowed}
 
@@ -161,7 +162,7 @@ module _ (carry : List ℕ) (carried : ℕ) (part : List ℕ) (over : Bool) wher
                   cannot-is (take carried carry) (omega (arith, held such)) (ap impossible (length-take-two carried carry (omega arith) ∙ sym (said-in such part (omega arith))) ∙ i),
                 ))
                 m m carry′ x (record {
-                  said = k .said ∙ ap (λ (n : ℕ). undecided (Refused brokenLog) n 2) nothing ∙ ap (λ (n : ℕ). refusing brokenLog n) (sym two);
+                  said = k .said ∙ ap (λ (n : ℕ). undecided (Refused impossibleLength) n 2) nothing ∙ ap (λ (n : ℕ). refusing impossibleLength n) (sym two);
                   pool = refl;
                   carry-is = k .carry-is ∙ both-carried two;
                 })

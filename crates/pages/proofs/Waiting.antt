@@ -8,7 +8,7 @@ use borrow.Author.Tests.{eq-eqb, ne-eqb}
 use lib.Dec.{eqb}
 use lib.ListN.{length}
 use Rattle.words.specs.Choice.{if_then_else_}
-use Rattle.record.specs.Answer.{brokenLog}
+use Rattle.record.specs.Answer.{tornLog}
 use Rattle.record.specs.Reader.{front}
 use Rattle.pages.specs.declared.told.Happened.the-variants.{More, End}
 use Rattle.pages.specs.declared.told.Fed.{Fed}
@@ -34,7 +34,7 @@ module _ (carry : List ℕ) (carried : ℕ) (part : List ℕ) (over : Bool) wher
       (λ m. subst (λ (x : Bool). FeedsAs (if x then atEnd else torn) m carry carried part (undecided End 0 0) m carry) (sym (eq-eqb (carried + length part) 0 z))
       (record { said = refl; pool = refl; carry-is = refl }))
 
-  pub waits-torn : not over ≡ false → (carried + length part ≡ 0 → ⊥) → (r : Fed) → r ≡ refusing brokenLog carried → Waits r carry
+  pub waits-torn : not over ≡ false → (carried + length part ≡ 0 → ⊥) → (r : Fed) → r ≡ refusing tornLog carried → Waits r carry
   waits-torn t n r e = is-over t r
       (λ m. subst (λ (x : Bool). FeedsAs (if x then atEnd else torn) m carry carried part r m carry) (sym (ne-eqb (carried + length part) 0 n))
       (record { said = e; pool = refl; carry-is = refl }))

@@ -8,9 +8,9 @@ use lib.Dec.{ltb, eqb}
 use lib.ListN.{length, take}
 use Rattle.words.specs.Choice.{if_then_else_}
 use Rattle.record.specs.declared.answer.Answer.{Answer}
-use Rattle.record.specs.Answer.{unfitPool, outputShort, brokenLog}
+use Rattle.record.specs.Answer.{unfitPool, outputShort, tornLog, impossibleLength}
 use Rattle.record.specs.Reader.{front}
-use Rattle.log.specs.Log.{minLength, maxLength, lengthAt, pastAt}
+use Rattle.log.specs.Log.{maxLength, lengthAt, pastAt, impossible}
 use Rattle.meld.specs.declared.melding.Melded.{Melded}
 use Rattle.meld.specs.Melds.{Melds}
 use Rattle.pages.specs.declared.told.Happened.{Happened}
@@ -22,10 +22,6 @@ use Rattle.pages.specs.declared.told.Fed.{Fed}
 -- R47: the bytes of a carry, as many as the longest record has
 abbrev pub carrySize : ℕ
 carrySize = maxLength + 2
-
--- R14: a length that no record has
-abbrev pub impossible : ℕ → Bool
-impossible n = ltb n minLength || ltb maxLength n
 
 -- R48: what may be carried: fewer than two bytes, or two of a length that cannot be, or fewer than a length that can be asks for
 abbrev pub mayCarry : List ℕ → ℕ → Bool
@@ -117,13 +113,13 @@ pub record RecordDecided (m carry : List ℕ) (carried : ℕ) (bytes : List ℕ)
 -- R47: what each row says
 abbrev pub FeedsAs : FeedRow → List ℕ → List ℕ → ℕ → List ℕ → Fed → List ℕ → List ℕ → Type 0
 FeedsAs wrongCarry m carry carried part = Leaves (refusing outputShort carried) m carry
-FeedsAs stuck m carry carried part = Leaves (refusing brokenLog carried) m carry
+FeedsAs stuck m carry carried part = Leaves (refusing impossibleLength carried) m carry
 FeedsAs cannotGoOn m carry carried part =
-    Leaves (undecided (Refused brokenLog) (2 - carried) 2) m (front (take 2 (bytesIn carry carried part)) carry)
+    Leaves (undecided (Refused impossibleLength) (2 - carried) 2) m (front (take 2 (bytesIn carry carried part)) carry)
 FeedsAs recordWhole m carry carried part = RecordDecided m carry carried (bytesIn carry carried part)
 FeedsAs goesOn m carry carried part = Leaves (undecided More (length part) (carried + length part)) m (front (bytesIn carry carried part) carry)
 FeedsAs atEnd m carry carried part = Leaves (undecided End 0 0) m carry
-FeedsAs torn m carry carried part = Leaves (refusing brokenLog carried) m carry
+FeedsAs torn m carry carried part = Leaves (refusing tornLog carried) m carry
 
 -- R47: the promise of `feed`, for any bytes lent: what is given back, and the pool and the carry afterwards
 pub record Feeds (m carry : List ℕ) (carried : ℕ) (part : List ℕ) (over : Bool) (r : Fed) (m′ carry′ : List ℕ) : Type 0 where

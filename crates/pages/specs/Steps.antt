@@ -7,15 +7,15 @@ use mathlib.Core.List.{List}
 use lib.Dec.{ltb, eqb}
 use lib.ListN.{length, take}
 use Rattle.words.specs.Choice.{if_then_else_}
-use Rattle.record.specs.Answer.{brokenLog}
+use Rattle.record.specs.Answer.{impossibleLength}
 use Rattle.record.specs.Reader.{front}
-use Rattle.log.specs.Log.{lengthAt, pastAt}
+use Rattle.log.specs.Log.{lengthAt, pastAt, impossible}
 use Rattle.meld.specs.declared.melding.Melded.{Melded}
 use Rattle.pages.specs.declared.carry.Begun.{Begun}
 use Rattle.pages.specs.declared.carry.Begun.the-variants.{Short, Impossible, Sized}
 use Rattle.pages.specs.declared.told.Happened.the-variants.{Decided, Refused}
 use Rattle.pages.specs.declared.told.Fed.{Fed}
-use Rattle.pages.specs.Pages.{impossible, bytesIn, FeedRow, goesOn, atEnd, torn, undecided}
+use Rattle.pages.specs.Pages.{bytesIn, FeedRow, goesOn, atEnd, torn, undecided}
 
 -- what a length says of its record
 abbrev pub sizedBy : ℕ → Begun
@@ -35,9 +35,9 @@ pub record LengthIn (carry : List ℕ) (carried : ℕ) (part : List ℕ) : Type 
   pub both : 2 ≤ carried + length part
   pub room : 2 ≤ length carry
 
--- 10, the two bytes at the carry's front, and of the part those that were new
+-- 11, the two bytes at the carry's front, and of the part those that were new
 pub record KeepsLength (carry : List ℕ) (carried : ℕ) (part : List ℕ) (r : Fed) (carry′ : List ℕ) : Type 0 where
-  pub said : r ≡ undecided (Refused brokenLog) (2 - carried) 2
+  pub said : r ≡ undecided (Refused impossibleLength) (2 - carried) 2
   pub carry-is : carry′ ≡ front (take 2 (bytesIn carry carried part)) carry
 
 -- the record's last byte is in, and the carry has room for it

@@ -1,7 +1,6 @@
 // The carry: at its front the bytes of a record whose others are still to come.
-use record::limits::MAX_LENGTH;
+use log::is_impossible;
 use record::limits::MAX_SIZE;
-use record::limits::MIN_LENGTH;
 use words::word2;
 ghost use mathlib.Core.Path.{_≡_};
 ghost use mathlib.Core.Bool.{_&&_};
@@ -9,7 +8,7 @@ ghost use Prim.Native.Nat.{_+_, _*_, _≤_};
 ghost use lib.Dec.{eqb};
 ghost use lib.ListN.{length};
 ghost use Rattle.record.specs.Reader.{front};
-ghost use Rattle.pages.specs.Pages.{carrySize, impossible, mayCarry, bytesIn};
+ghost use Rattle.pages.specs.Pages.{carrySize, mayCarry, bytesIn};
 ghost use Rattle.pages.specs.Steps.{sizedBy, begunIn};
 
 // How far the record is that begins with the bytes that are in.
@@ -20,16 +19,6 @@ pub enum Begun {
     Impossible,
     // So many bytes it has, the two of the length among them.
     Sized(usize),
-}
-
-// Whether no record has this length.
-fn is_impossible(length: usize) -> bool
-    ensures { λ r. ⌜ r ≡ impossible length ⌝ }
-{
-    if length < MIN_LENGTH {
-        return true;
-    }
-    MAX_LENGTH < length
 }
 
 // Whether a call could have left this carry with so many bytes at its front.

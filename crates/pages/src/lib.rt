@@ -31,7 +31,7 @@ fn refused(answer: Answer, carried: usize) -> Fed
     }
 }
 
-// No whole record is in: the part is kept, or the log is over.
+// No whole record is in: the part is kept, or the log is over, and torn if a byte is in.
 fn wait(carry: &mut [u8], carried: usize, part: &[u8], over: bool) -> Fed
     requires { ⌜ carried + length (now part) ≤ length (now carry) ⌝ }
     ensures { λ r. ⌜ ((m : List ℕ) → FeedsAs (waitRow over (carried + length (now (part .entry)))) m (now (carry .entry)) carried (now (part .entry)) r m (now (carry .exit))) ⌝ }
@@ -53,7 +53,7 @@ fn wait(carry: &mut [u8], carried: usize, part: &[u8], over: bool) -> Fed
             carried: 0,
         };
     }
-    refused(Answer::BROKEN_LOG, carried)
+    refused(Answer::TORN_LOG, carried)
 }
 
 // A length that cannot be is in: its two bytes are kept, and nothing more.
@@ -64,7 +64,7 @@ fn keep_length(carry: &mut [u8], carried: usize, part: &[u8]) -> Fed
     let new = 2 - carried;
     put_behind(carry, carried, &part[..new]);
     Fed {
-        happened: Happened::Refused(Answer::BROKEN_LOG),
+        happened: Happened::Refused(Answer::IMPOSSIBLE_LENGTH),
         looks: 0,
         taken: new,
         carried: 2,

@@ -5,7 +5,7 @@ use record::Answer;
 pub enum Happened {
     // A record was decided: its verdict, 6, 4, 5, 2, 1, 3 or 0.
     Decided(Answer),
-    // None was: 8, 10 or 7.
+    // None was: 8, 11, 7 or 10.
     Refused(Answer),
     // The part is taken, and its record or its length is still without its last byte.
     More,

@@ -43,5 +43,9 @@ abbrev pub badLimits : Answer
 badLimits = record { number = 9 }
 
 -- R3: 10
-abbrev pub brokenLog : Answer
-brokenLog = record { number = 10 }
+abbrev pub tornLog : Answer
+tornLog = record { number = 10 }
+
+-- R3: 11
+abbrev pub impossibleLength : Answer
+impossibleLength = record { number = 11 }

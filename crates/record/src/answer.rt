@@ -24,5 +24,7 @@ impl Answer {
 
     pub const BAD_LIMITS: Answer = Answer { number: 9 };
 
-    pub const BROKEN_LOG: Answer = Answer { number: 10 };
+    pub const TORN_LOG: Answer = Answer { number: 10 };
+
+    pub const IMPOSSIBLE_LENGTH: Answer = Answer { number: 11 };
 }

@@ -1,11 +1,11 @@
--- The two numbers of a cut tell the three cases apart: a record's place past it is above its place.
+-- The two numbers of a cut tell the four cases apart: a record's place past it is above its place.
 -- Assumes nothing.
 use Prim.Native.Nat.{ℕ}
 use mathlib.Core.Path.{_≡_, refl, sym, ap, _∙_}
 use mathlib.Core.List.{List}
 use native.Mathlib.Omega.{arith}
 use Rattle.log.specs.declared.found.Cut.{Cut}
-use Rattle.log.specs.declared.found.Cut.the-variants.{End, Broken, Record}
+use Rattle.log.specs.declared.found.Cut.the-variants.{End, Torn, Impossible, Record}
 use Rattle.log.specs.Log.{cutAt}
 use Rattle.log.proofs.Stands.{record-tells}
 use Rattle.record_abi.specs.declared.numbers.CutNumbers.{CutNumbers}
@@ -19,16 +19,20 @@ cut-tells log place n next h = go (cutAt log place) refl h
     go End is q =
         let a : n ≡ 0 = ap (λ (t : CutNumbers). t .number) q in
         let b : next ≡ place = ap (λ (t : CutNumbers). t .next) q in
-        record { broken-is = λ e. absurd (omega arith); end-is = λ _ _. is; record-is = λ _ e. absurd (omega arith) }
-    go Broken is q =
+        record { torn-is = λ e. absurd (omega arith); impossible-is = λ e. absurd (omega arith); end-is = λ _ _. is; record-is = λ _ e. absurd (omega arith) }
+    go Torn is q =
         let a : n ≡ 10 = ap (λ (t : CutNumbers). t .number) q in
-        record { broken-is = λ _. is; end-is = λ e _. absurd (omega arith); record-is = λ e _. absurd (omega arith) }
+        record { torn-is = λ _. is; impossible-is = λ e. absurd (omega arith); end-is = λ e _. absurd (omega arith); record-is = λ e _. absurd (omega arith) }
+    go Impossible is q =
+        let a : n ≡ 11 = ap (λ (t : CutNumbers). t .number) q in
+        record { torn-is = λ e. absurd (omega arith); impossible-is = λ _. is; end-is = λ e _. absurd (omega arith); record-is = λ e _. absurd (omega arith) }
     go (Record past) is q =
         let a : n ≡ 0 = ap (λ (t : CutNumbers). t .number) q in
         let b : next ≡ past = ap (λ (t : CutNumbers). t .next) q in
         let beyond = record-tells log place past is in
         record {
-          broken-is = λ e. absurd (omega arith);
+          torn-is = λ e. absurd (omega arith);
+          impossible-is = λ e. absurd (omega arith);
           end-is = λ _ e. absurd (omega (arith, beyond .past));
           record-is = λ _ _. is ∙ ap Record (sym b);
         }

@@ -35,6 +35,6 @@ numberIn (some a) = a .number
 abbrev pub cutNumbers : CutTold → ℕ → CutNumbers
 cutNumbers t place = found (numberIn (t .answer)) (valueOr place (t .past))
 
--- so 10 and the place for a broken log; 0 and the place at the end; 0 and the place past a record (R14)
+-- so 10 and the place for a torn log, 11 and the place for an impossible length; 0 and the place at the end; 0 and the place past a record (R14)
 abbrev pub ofCut : Cut → ℕ → CutNumbers
 ofCut c place = cutNumbers (cutTold c) place

@@ -22,8 +22,12 @@ pub fn of_cut(found: Cut, place: usize) -> CutNumbers
             number: NO_NUMBER,
             next: place,
         },
-        Cut::Broken => CutNumbers {
-            number: Answer::BROKEN_LOG.number,
+        Cut::Torn => CutNumbers {
+            number: Answer::TORN_LOG.number,
+            next: place,
+        },
+        Cut::Impossible => CutNumbers {
+            number: Answer::IMPOSSIBLE_LENGTH.number,
             next: place,
         },
         Cut::Record(next) => CutNumbers {

@@ -10,6 +10,9 @@ enum-told c = search needs
 enum-told-2 : tie.Need-enum-told-2
 enum-told-2 c = search needs
 
+enum-told-3 : tie.Need-enum-told-3
+enum-told-3 c = search needs
+
 enum-known-found : tie.Need-enum-known-found
 enum-known-found c = search needs
 
@@ -20,7 +23,10 @@ returns-2 : tie.Need-returns-2
 returns-2 c = known-cut _ _ _ (c .enum-told2 .given .1)
 
 returns-3 : tie.Need-returns-3
-returns-3 c = known-cut _ _ _ (c .before .found .given .1)
+returns-3 c = known-cut _ _ _ (c .enum-told3 .given .1)
+
+returns-4 : tie.Need-returns-4
+returns-4 c = known-cut _ _ _ (c .before .found .given .1)
 
 pub of-cut-spec : {M : Type 1} → statement M
-of-cut-spec = tie.close (tie.spec enum-told enum-told-2 enum-known-found returns returns-2 returns-3)
+of-cut-spec = tie.close (tie.spec enum-told enum-told-2 enum-told-3 enum-known-found returns returns-2 returns-3 returns-4)

@@ -1,9 +1,9 @@
--- `carry::is_impossible` meets its contract (Lengths.antt).
+-- `length::is_impossible` meets its contract (Lengths.antt).
 -- Assumes nothing.
 use borrow.Author.Needs.{needs}
-use Rattle.pages.proofs.Lengths.{too-short, not-short}
-use Rattle.pages.proofs.carry.is_impossible.Statement.{statement}
-use Rattle.pages.proofs.carry.is_impossible.Tie as tie
+use Rattle.log.proofs.Lengths.{too-short, not-short}
+use Rattle.log.proofs.length.is_impossible.Statement.{statement}
+use Rattle.log.proofs.length.is_impossible.Tie as tie
 
 returns : tie.Need-returns
 returns c = search (too-short, needs)
