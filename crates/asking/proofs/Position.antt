@@ -5,7 +5,7 @@
 use Prim.Native.Nat.{ℕ, _+_, _-_, _≤_}
 use mathlib.Core.Path.{_≡_, refl, sym, ap, subst, _∙_}
 use mathlib.Core.Bool.{true, false, true≢false}
-use mathlib.Core.Logic.{_⊎_, inl, inr}
+use mathlib.Core.Logic.{_⊎_, inl, inr, ⊎-elim}
 use mathlib.Core.List.{List, [], _∷_, _++_}
 use native.Mathlib.Omega.{arith}
 use lib.ListN.{length, take, drop, length-append, length-drop, take-append-drop}
@@ -14,10 +14,10 @@ use denote.Ref.{now}
 use Rattle.words.specs.Laws.{word-drop}
 use Rattle.record.specs.Answer.{committed}
 use Rattle.log.specs.declared.found.Cut.{Cut}
-use Rattle.log.specs.declared.found.Cut.the-variants.{End, Broken, Record}
-use Rattle.log.specs.Log.{lengthAt, cutAt, partOf, RecordAt, CutIs}
+use Rattle.log.specs.declared.found.Cut.the-variants.{End, Torn, Impossible, Record}
+use Rattle.log.specs.Log.{lengthAt, impossible, cutAt, partOf, RecordAt, CutIs}
 use Rattle.log.proofs.Told.{cut-case}
-use Rattle.log.proofs.Stands.{end-tells, end-found, record-tells, record-found, broken-found, broken-not-end, broken-not-record}
+use Rattle.log.proofs.Stands.{end-tells, end-found, record-tells, record-found, torn-said, torn-found, impossible-said, impossible-found}
 use Rattle.log.proofs.Same.{cut-same, part-same}
 use Rattle.create.specs.Fresh.{Created}
 use Rattle.meld.specs.declared.melding.Melded.{Melded}
@@ -54,19 +54,15 @@ module _ (log : List ℕ) (place : ℕ) (inside : place ≤ length log) where
   -- no record
   over-behind : (c : Cut) → isOver c → cutAt (drop place log) 0 ≡ c → cutAt log place ≡ c
   over-behind End o e = end-found log place (omega (arith, end-tells (drop place log) 0 e, length-drop place log, inside))
-  over-behind Broken o e =
-      broken-found log place
-      (λ z. broken-not-end (sym e ∙ end-found (drop place log) 0 (omega (arith, z, length-drop place log))))
-      (λ next r.
-      broken-not-record
-      (sym e
-      ∙ record-found (drop place log) 0 (next - place)
-      (record {
-        least = omega (arith, r .least, same-said);
-        most = omega (arith, r .most, same-said);
-        past = omega (arith, r .past, same-said);
-        inside = omega (arith, r .past, r .inside, length-drop place log);
-      })))
+  over-behind Torn o e =
+      let (off, few) = torn-said (drop place log) 0 e in
+      let left : length (drop place log) ≡ length log - place = length-drop place log in
+      torn-found log place (λ z. off (omega (arith, z, left)))
+      (λ two. ⊎-elim (λ h. absurd (omega (arith, h, left, two))) (λ h. ap impossible (sym same-said) ∙ h .0) few)
+      (λ next r. ⊎-elim (λ h. omega (arith, h, left, r .past, r .inside)) (λ h. omega (arith, h .1, left, same-said, r .past, r .inside)) few)
+  over-behind Impossible o e =
+      let (two, i) = impossible-said (drop place log) 0 e in
+      impossible-found log place (omega (arith, two, length-drop place log)) (ap impossible (sym same-said) ∙ i)
   over-behind (Record next) o e = absurd o
 
 -- A LONGER LOG

@@ -11,7 +11,7 @@ use lib.Seq.{length-take-le}
 use denote.Enum.Declared.{tagOf}
 use types.Run.{OneOf}
 use Rattle.log.specs.declared.found.Cut.{Cut}
-use Rattle.log.specs.declared.found.Cut.the-variants.{End, Broken, Record}
+use Rattle.log.specs.declared.found.Cut.the-variants.{End, Torn, Impossible, Record}
 use Rattle.log.specs.Log.{cutAt}
 use Rattle.log.proofs.found.Cut as T
 use Rattle.log.proofs.Told.{cut-case}
@@ -32,10 +32,11 @@ use Rattle.asking.specs.Seeking.{PassedBy, ToldAt, LooksAndTells, stoppe
 -- WHAT A LOOK SHOWS
 
 -- where no record was found, the log is over
-pub no-record : (found : Cut) → OneOf (0 ∷ 1 ∷ []) (tagOf T.the-type found) → isOver found
+pub no-record : (found : Cut) → OneOf (0 ∷ 1 ∷ 2 ∷ []) (tagOf T.the-type found) → isOver found
 no-record End o = tt
-no-record Broken o = tt
-no-record (Record next) o = absurd (⊎-elim (λ e. omega arith) (λ e. omega arith) o)
+no-record Torn o = tt
+no-record Impossible o = tt
+no-record (Record next) o = absurd (⊎-elim (λ e. omega arith) (λ k. ⊎-elim (λ e. omega arith) (λ e. omega arith) k) o)
 
 module _ (held : ℕ) (window filled : List ℕ) (seen : Seen) (inside : held ≤ length window) (looked : Looked held window filled seen) where
   -- no more bytes are held than the window has
@@ -63,7 +64,7 @@ module _ (held : ℕ) (m window filled : List ℕ) (seen : Seen) (looked : Looke
   pass-unread e = PassedBy.unread looked e
 
   -- no record stands there
-  pub pass-over : seen .failed ≡ false → OneOf (0 ∷ 1 ∷ []) (tagOf T.the-type (seen .found)) → PassedBy held m window m filled (Steps.Over (seen .found))
+  pub pass-over : seen .failed ≡ false → OneOf (0 ∷ 1 ∷ 2 ∷ []) (tagOf T.the-type (seen .found)) → PassedBy held m window m filled (Steps.Over (seen .found))
   pass-over e o = PassedBy.over looked e (no-record (seen .found) o)
 
   -- a record is passed
@@ -88,7 +89,7 @@ module _ (held : ℕ) (m window filled : List ℕ) (seen : Seen) (looked : Looke
   pub tell-unread : (records : ℕ) → seen .failed ≡ true → LooksAndTells held records m window filled Tolds.Unread
   tell-unread records e = record { seen = seen; looked = looked; told-at = ToldAt.unread e }
 
-  pub tell-over : (records : ℕ) → seen .failed ≡ false → OneOf (0 ∷ 1 ∷ []) (tagOf T.the-type (seen .found))
+  pub tell-over : (records : ℕ) → seen .failed ≡ false → OneOf (0 ∷ 1 ∷ 2 ∷ []) (tagOf T.the-type (seen .found))
       → LooksAndTells held records m window filled (Tolds.Over (seen .found) records)
   tell-over records e o = record { seen = seen; looked = looked; told-at = ToldAt.over e (no-record (seen .found) o) }
 

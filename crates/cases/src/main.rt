@@ -36,7 +36,7 @@ fn meld_log(pool: &mut [u8], log: &[u8]) -> Cut
     let going = feed_part(pool, &mut carry, 0, log, 1);
     let carried = going.carried;
     if going.stopped {
-        return Cut::Broken;
+        return Cut::Impossible;
     }
     finish(pool, &mut carry, carried)
 }

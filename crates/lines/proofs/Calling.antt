@@ -12,8 +12,6 @@ use lib.Seq.{take-all}
 use denote.Enum.Declared.{tagOf}
 use types.Run.{OneOf}
 use Rattle.record.specs.declared.answer.Answer.{Answer}
-use Rattle.log.specs.declared.found.Cut.{Cut}
-use Rattle.log.specs.declared.found.Cut.the-variants as Cuts
 use Rattle.pages.specs.declared.told.Happened.{Happened}
 use Rattle.pages.specs.declared.told.Happened.the-variants.{Decided, Refused, More, End}
 use Rattle.pages.specs.declared.told.Fed.{Fed}
@@ -24,7 +22,7 @@ use Rattle.meld.specs.declared.melding.Melded.{Melded}
 use Rattle.demands.specs.Feeding.{verdictIn, verdictsIn}
 use Rattle.demands.proofs.FedOn.{verdicts-append}
 use Rattle.lines.specs.declared.parts.Going.{Going}
-use Rattle.lines.specs.Parts.{onBy, goesOnBy, CallsOver, none-yet, one-more, PartCalls, all-taken, stops, PartFed, closedBy, Finishes}
+use Rattle.lines.specs.Parts.{onBy, goesOnBy, CallsOver, none-yet, one-more, PartCalls, all-taken, stops, PartFed}
 
 -- WHAT IS TOLD OF A CALL
 
@@ -42,17 +40,6 @@ one-decided h looks position a r e q = q ∙ ap (λ (x : Happened). onBy positio
 -- the log does not go on behind a refusal
 refused-stops : (h : Happened) (a : Answer) → h ≡ Refused a → goesOnBy h ≡ true → ⊥
 refused-stops h a e t = true≢false (sym t ∙ ap goesOnBy e)
-
--- HOW A LOG ENDS
-
-pub not-at-end : (h : Happened) → OneOf (0 ∷ 1 ∷ 2 ∷ []) (tagOf T.the-type h) → Cuts.Broken ≡ closedBy h
-not-at-end (Decided a) o = refl
-not-at-end (Refused a) o = refl
-not-at-end More o = refl
-not-at-end End o = absurd (⊎-elim (λ e. omega arith) (λ p. ⊎-elim (λ e. omega arith) (λ e. omega arith) p) o)
-
-pub at-end : (h : Happened) → h ≡ End → Cuts.End ≡ closedBy h
-at-end h e = sym (ap closedBy e)
 
 -- THE CALLS SO FAR
 
@@ -105,7 +92,8 @@ module _ (part : List ℕ) (position : ℕ) (m carry : List ℕ) (carried place 
         let g : goesOnBy (r .happened) ≡ true = sym e ∙ not-false b n in (
           record { calls = s .calls ++ (r ∷ []); made = one-more (s .made) on-rest g; inside = within; position-is = counted },
           ⊎-elim (λ h. h)
-              (λ w. absurd (⊎-elim (λ q. refused-stops (r .happened) _ q g) (λ v. ⊎-elim (λ q. refused-stops (r .happened) _ q g) (λ q. refused-stops (r .happened) _ q g) v) w))
+              (λ w. absurd (⊎-elim (λ q. refused-stops (r .happened) _ q g) (λ v. ⊎-elim (λ q. refused-stops (r .happened) _ q g)
+              (λ x. ⊎-elim (λ q. refused-stops (r .happened) _ q g) (λ q. refused-stops (r .happened) _ q g) x) v) w))
               (gets-on on-rest (omega (arith, length-drop place part))),
         )
 

@@ -1,3 +1,4 @@
+mod Endings
 pub mod Openings
 pub mod Limits
 mod Calling

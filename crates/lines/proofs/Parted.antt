@@ -1,5 +1,5 @@
 -- From the calls that the programs make to the runs of the theorems (R49): a part fed, then more parts, then the log over.
--- The idea: lent a fit pool and a carry that may be, a call behind which the log does not go on says that it is broken.
+-- The idea: lent a fit pool and a carry that may be, a call behind which the log does not go on says 11.
 -- Assumes nothing.
 use Prim.Native.Nat.{ℕ, _+_, _≤_}
 use mathlib.Core.Path.{_≡_, refl, sym, ap, subst, _∙_}
@@ -8,9 +8,10 @@ use mathlib.Core.Option.{Option, none, some}
 use mathlib.Core.List.{List, [], _∷_, _++_, append-assoc, append-nil}
 use native.Mathlib.Omega.{arith}
 use lib.Dec.{eqb}
+use borrow.Author.Tests.{eqb-true, ne-eqb}
 use lib.ListN.{length, drop, drop-of-length-le}
 use lib.Seq.{drop-drop}
-use Rattle.record.specs.Answer.{committed, brokenLog}
+use Rattle.record.specs.Answer.{committed, tornLog, impossibleLength}
 use Rattle.record.proofs.Cases.{by-case, no-some}
 use Rattle.log.specs.declared.found.Cut.{Cut}
 use Rattle.log.specs.declared.found.Cut.the-variants as Cuts
@@ -47,27 +48,33 @@ goes-none End t = absurd (true≢false (sym t))
 -- what a call says of the ending, where it says something, is how the log is closed
 ending-closed : (h : Happened) (last : Cut) → endingIn h ≡ some last → endingIn h ≡ some (closedBy h)
 ending-closed (Decided a) last e = absurd (no-some e)
-ending-closed (Refused a) last e = by-case (eqb (a .number) (brokenLog .number)) (λ t. simp t) λ f. absurd (no-some (simp f at e))
+ending-closed (Refused a) last e =
+    by-case (eqb (a .number) (tornLog .number))
+    (λ t.
+    let other : eqb (a .number) (impossibleLength .number) ≡ false =
+    ne-eqb _ _ (λ (s : a .number ≡ 11). absurd (omega (arith, s, eqb-true (a .number) 10 t))) in
+    simp (t, other)) λ f.
+    by-case (eqb (a .number) (impossibleLength .number)) (λ t. simp (f, t)) λ g. absurd (no-some (simp (f, g) at e))
 ending-closed More last e = absurd (no-some e)
 ending-closed End last e = refl
 
 module _ {m carry : List ℕ} {carried : ℕ} (fit : Fit m) (s : Such carry carried) where
-  -- while the log is not over, a call behind which it does not go on says that it is broken
-  stop-broken : {part : List ℕ} {r : Fed} {m′ carry′ : List ℕ} → Feeds m carry carried part false r m′ carry′ → goesOnBy (r .happened) ≡ false
-      → endingIn (r .happened) ≡ some Cuts.Broken
-  stop-broken {part} {r} {m′} {carry′} f n = go (feedRow carry carried part false) refl (f .as-said)
+  -- while the log is not over, a call behind which it does not go on says 11
+  stop-impossible : {part : List ℕ} {r : Fed} {m′ carry′ : List ℕ} → Feeds m carry carried part false r m′ carry′ → goesOnBy (r .happened) ≡ false
+      → endingIn (r .happened) ≡ some Cuts.Impossible
+  stop-impossible {part} {r} {m′} {carry′} f n = go (feedRow carry carried part false) refl (f .as-said)
     where
-      went : {x : Fed} → r ≡ x → goesOnBy (x .happened) ≡ true → endingIn (r .happened) ≡ some Cuts.Broken
+      went : {x : Fed} → r ≡ x → goesOnBy (x .happened) ≡ true → endingIn (r .happened) ≡ some Cuts.Impossible
       went e t = absurd (true≢false (sym t ∙ ap goesOnBy (sym (happened-is e)) ∙ n))
 
-      go : (row : FeedRow) → feedRow carry carried part false ≡ row → FeedsAs row m carry carried part r m′ carry′ → endingIn (r .happened) ≡ some Cuts.Broken
+      go : (row : FeedRow) → feedRow carry carried part false ≡ row → FeedsAs row m carry carried part r m′ carry′ → endingIn (r .happened) ≡ some Cuts.Impossible
       go wrongCarry e l = no-both (may-join carry carried (s .sized) (s .may)) (row-facts wrongCarry carry carried part false e)
       go stuck e l = ap endingIn (happened-is (l .said))
       go cannotGoOn e l = ap endingIn (happened-is (l .said))
       go recordWhole e d = went (verdict-said d (fit-answers (d .melds) fit)) refl
       go goesOn e l = went (l .said) refl
       go atEnd e l = absurd (true≢false (sym (row-facts atEnd carry carried part false e .4)))
-      go torn e l = ap endingIn (happened-is (l .said))
+      go torn e l = absurd (true≢false (sym (row-facts torn carry carried part false e .4)))
 
 -- CALLS OVER A PART
 
@@ -102,13 +109,13 @@ pub part-then : {part m carry : List ℕ} {carried : ℕ} {rs : List Fed} {m′ 
 part-then {part} (all-taken {n = n} {carried′ = k} {m′ = m₁} {carry′ = carry₁} c h) parts qs m″ last p =
     calls-then c parts qs m″ last (subst (λ (l : List ℕ). PartsFed (l ∷ parts) m₁ carry₁ k qs m″ last) (sym (drop-of-length-le part h)) (next-part p))
 
--- the log does not go on: it is broken
+-- the log does not go on: its length is impossible
 pub part-breaks : {part m carry : List ℕ} {carried : ℕ} {rs : List Fed} {m′ carry′ : List ℕ} {carried′ : ℕ}
     → PartCalls part m carry carried rs m′ carry′ carried′ true → Fit m → Such carry carried → (parts : List (List ℕ))
-    → PartsFed (part ∷ parts) m carry carried rs m′ Cuts.Broken
+    → PartsFed (part ∷ parts) m carry carried rs m′ Cuts.Impossible
 part-breaks (stops {m″ = m₁} {r = r} c f g) fit s parts =
     let (a, b) = calls-ready c fit s in
-    calls-then c parts (r ∷ []) m₁ Cuts.Broken (breaks-off f (stop-broken a b f g))
+    calls-then c parts (r ∷ []) m₁ Cuts.Impossible (breaks-off f (stop-impossible a b f g))
 
 -- the log is over
 pub finished : {m carry : List ℕ} {carried : ℕ} {m′ carry′ : List ℕ} {found : Cut} → Such carry carried → (f : Finishes m carry carried m′ carry′ found)
@@ -127,8 +134,8 @@ pub new-fit : {lent : List ℕ} {N Z : ℕ} {m : List ℕ} → Created lent N Z 
 new-fit {lent} {N} {Z} {m} c = stays-fit lent N Z m m c none-more
 
 module _ (log m carry m′ carry′ : List ℕ) (sized : length carry ≡ carrySize) (r : Going) (p : PartFed log 1 m carry 0 m′ carry′ r) where
-  -- a whole log in one part, and broken in it
-  pub log-breaks : r .stopped ≡ true → LogMelded log m m′ Cuts.Broken
+  -- a whole log in one part, with an impossible length in it
+  pub log-breaks : r .stopped ≡ true → LogMelded log m m′ Cuts.Impossible
   log-breaks b =
       record {
         carry = carry;
@@ -139,7 +146,7 @@ module _ (log m carry m′ carry′ : List ℕ) (sized : length carry ≡ carryS
         whole =
             λ N Z lent made. (
               p .calls,
-              subst (λ (l : List ℕ). Whole N Z l (verdictsIn (p .calls)) Cuts.Broken m′) (append-nil log)
+              subst (λ (l : List ℕ). Whole N Z l (verdictsIn (p .calls)) Cuts.Impossible m′) (append-nil log)
                   (parts-whole made sized
                   (part-breaks (subst (λ (x : Bool). PartCalls log m carry 0 (p .calls) m′ carry′ (r .carried) x) b (p .made)) (new-fit made) (such-none sized) [])),
             );

@@ -4,10 +4,14 @@ use Prim.Native.Nat.{ℕ, _+_, _%_, _^_, _≤_}
 use mathlib.Core.Path.{_≡_}
 use mathlib.Core.Bool.{Bool, true, false}
 use mathlib.Core.List.{List, [], _∷_, _++_}
+use lib.Dec.{eqb}
 use lib.ListN.{length, drop}
-use Rattle.record.specs.Answer.{committed}
+use Rattle.words.specs.Choice.{if_then_else_, valueOr}
+use Rattle.record.specs.declared.answer.Answer.{Answer}
+use Rattle.record.specs.Answer.{committed, impossibleLength}
 use Rattle.log.specs.declared.found.Cut.{Cut}
 use Rattle.log.specs.declared.found.Cut.the-variants as Cuts
+use Rattle.log.specs.Log.{cutTold}
 use Rattle.create.specs.Fresh.{Created}
 use Rattle.pages.specs.declared.told.Happened.{Happened}
 use Rattle.pages.specs.declared.told.Happened.the-variants.{Decided, Refused, More, End}
@@ -50,12 +54,20 @@ pub record PartFed (part : List ℕ) (position : ℕ) (m carry : List ℕ) (carr
   pub made : PartCalls part m carry carried calls m′ carry′ (r .carried) (r .stopped)
   pub position-is : r .position ≡ onBy position (length (verdictsIn calls))
 
--- how a log ends by what the call says that is told it is over: at its end, or broken
+-- how a log ends by a refusal: at an impossible length with 11, else torn
+abbrev pub refusedBy : Answer → Cut
+refusedBy a = if eqb (a .number) (impossibleLength .number) then Cuts.Impossible else Cuts.Torn
+
+-- how a log ends by what the call says that is told it is over: at its end, torn, or at an impossible length
 abbrev pub closedBy : Happened → Cut
-closedBy (Decided a) = Cuts.Broken
-closedBy (Refused a) = Cuts.Broken
-closedBy More = Cuts.Broken
+closedBy (Decided a) = Cuts.Torn
+closedBy (Refused a) = refusedBy a
+closedBy More = Cuts.Torn
 closedBy End = Cuts.End
+
+-- the answer that is printed behind the last record (R41): what the rules say of what stands there, and 0 where they have no number for it
+abbrev pub endingAnswer : Cut → Answer
+endingAnswer c = valueOr committed (cutTold c .answer)
 
 -- the call that is told the log is over, with no byte more
 pub record Finishes (m carry : List ℕ) (carried : ℕ) (m′ carry′ : List ℕ) (found : Cut) : Type 0 where

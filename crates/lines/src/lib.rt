@@ -11,6 +11,7 @@ pub use parts::Going;
 pub use parts::feed_part;
 pub use parts::finish;
 pub use printing::Line;
+pub use printing::ending_answer;
 pub use printing::print_answer;
 pub use printing::print_ending;
 pub use printing::print_line;

@@ -4,10 +4,11 @@ use crate::printing::print_line;
 use log::Cut;
 use pages::Happened;
 use pages::feed;
+use record::Answer;
 ghost use mathlib.Core.Path.{_≡_};
 ghost use lib.ListN.{length};
 ghost use Rattle.demands.specs.Feeding.{verdictIn};
-ghost use Rattle.lines.specs.Parts.{onBy, goesOnBy, PartFed, Finishes};
+ghost use Rattle.lines.specs.Parts.{onBy, goesOnBy, refusedBy, closedBy, PartFed, Finishes};
 
 // How far a log is: the bytes carried, the position of the record that comes next, and whether a call has said that the log does not go on.
 pub struct Going {
@@ -79,6 +80,28 @@ pub fn feed_part(
     }
 }
 
+// How the log ends, by a refusal.
+fn refused_by(answer: Answer) -> Cut
+    ensures { λ r. ⌜ r ≡ refusedBy answer ⌝ }
+{
+    if answer.number == Answer::IMPOSSIBLE_LENGTH.number {
+        return Cut::Impossible;
+    }
+    Cut::Torn
+}
+
+// How the log ends, by what the call has said that was told it is over.
+fn closed_by(happened: Happened) -> Cut
+    ensures { λ r. ⌜ r ≡ closedBy happened ⌝ }
+{
+    match happened {
+        Happened::Decided(_) => Cut::Torn,
+        Happened::Refused(answer) => refused_by(answer),
+        Happened::More => Cut::Torn,
+        Happened::End => Cut::End,
+    }
+}
+
 // Says that the log is over, and answers how it ends.
 pub fn finish(pool: &mut [u8], carry: &mut [u8], carried: usize) -> Cut
     ensures { λ r. ⌜ Finishes (now (pool .entry)) (now (carry .entry)) carried (now (pool .exit)) (now (carry .exit)) r ⌝ }
@@ -86,8 +109,5 @@ pub fn finish(pool: &mut [u8], carry: &mut [u8], carried: usize) -> Cut
     let none = [0u8; 0];
     let fed = feed(pool, carry, carried, &none, true);
     let happened = fed.happened;
-    let Happened::End = happened else {
-        return Cut::Broken;
-    };
-    Cut::End
+    closed_by(happened)
 }

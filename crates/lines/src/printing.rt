@@ -2,6 +2,8 @@
 use libc::STDOUT_FILENO;
 use log::Cut;
 use record::Answer;
+ghost use mathlib.Core.Path.{_≡_};
+ghost use Rattle.lines.specs.Parts.{endingAnswer};
 
 // What the line of a record says.
 pub struct Line {
@@ -27,11 +29,24 @@ pub fn print_line(line: Line) {
     io::write_all(STDOUT_FILENO, b"\n");
 }
 
-// Prints the line after the last record: `end` where that is what stands there, else 10.
+// The answer that stands for what was found behind the last record: 10 for a torn log, 11 for an impossible length, 0 where the rules have none.
+pub fn ending_answer(found: Cut) -> Answer
+    ensures { λ r. ⌜ r ≡ endingAnswer found ⌝ }
+{
+    match found {
+        Cut::End => Answer::COMMITTED,
+        Cut::Torn => Answer::TORN_LOG,
+        Cut::Impossible => Answer::IMPOSSIBLE_LENGTH,
+        Cut::Record(_) => Answer::COMMITTED,
+    }
+}
+
+// Prints the line after the last record, what stands there: 10, 11 or `end`.
 pub fn print_ending(found: Cut) {
-    let Cut::End = found else {
-        print_answer(Answer::BROKEN_LOG);
+    let answer = ending_answer(found);
+    if answer.number != Answer::COMMITTED.number {
+        print_answer(answer);
         return;
-    };
+    }
     io::write_all(STDOUT_FILENO, b"end\n");
 }

@@ -1,6 +1,6 @@
 // The two forms over structs, run: the log reader over a small log, and the writer's entry for pairs.
 // The log is the records of rows 4 and 3 of R44 back to back, and one byte that is no record. First a line with the place of a new reader
-// after one step. Then for each step from a place a line: what was found there, in words (`record`, `end` or `broken`), the place
+// after one step. Then for each step from a place a line: what was found there, in words (`record`, `end`, `torn` or `impossible`), the place
 // afterwards, and how many bytes were handed out. Then the second of the two records is written, with its scan as a pair, and printed: answer, size,
 // and the bytes.
 ghost use mathlib.Core.Path.{_≡_};
@@ -13,7 +13,8 @@ use record::Scan;
 fn print_found(found: Cut) -> bool {
     match found {
         Cut::End => io::write_all(1, b"end"),
-        Cut::Broken => io::write_all(1, b"broken"),
+        Cut::Torn => io::write_all(1, b"torn"),
+        Cut::Impossible => io::write_all(1, b"impossible"),
         Cut::Record(_) => io::write_all(1, b"record"),
     }
 }

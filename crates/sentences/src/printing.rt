@@ -7,6 +7,7 @@ use asking::Numbers;
 use asking::Told;
 use asking::numbers_of;
 use libc::STDERR_FILENO;
+use lines::ending_answer;
 use lines::print_answer;
 use lines::print_ending;
 use log::Cut;
@@ -91,27 +92,40 @@ fn print_limits(held: usize, n: u32, z: u32, in_numbers: bool) {
     say(b", and may be 1 to 4096\n");
 }
 
-// Prints behind which record the log is broken, so many records into it.
-fn print_broken(records: u32, in_numbers: bool) {
-    if in_numbers {
-        print_ending(Cut::Broken);
-        return;
-    }
-    print_first(b"log", 0, Answer::BROKEN_LOG);
+// Says where the log stops, so many records into it.
+fn say_torn(records: u32) {
     if records == 0 {
-        say(b"no whole record stands at its start\n");
+        say(b"the log stops within its first record\n");
         return;
     }
-    say(b"no whole record stands behind record ");
+    say(b"the log stops within the record behind record ");
     say_number(records as u64);
     say(b"\n");
 }
 
-// Says on standard error that the log has only so many records; as numbers, that is `end`.
-fn print_end(records: u32, in_numbers: bool) {
-    if in_numbers {
-        print_ending(Cut::End);
+// Says where a length stands that no record has, so many records into the log.
+fn say_impossible(records: u32) {
+    if records == 0 {
+        say(b"at its start");
+    } else {
+        say(b"behind record ");
+        say_number(records as u64);
     }
+    say(b" stands a length that no record has: 7 to 903 can be\n");
+}
+
+// Prints that the log is torn, or that a length in it is impossible, by the answer for it.
+fn print_stopped(answer: Answer, records: u32) {
+    print_first(b"log", 0, answer);
+    if answer.number == Answer::TORN_LOG.number {
+        say_torn(records);
+        return;
+    }
+    say_impossible(records);
+}
+
+// Says on standard error that the log has only so many records.
+fn say_end(records: u32) {
     io::write_all(
         STDERR_FILENO,
         b"explain: no record has that position; records in the log: ",
@@ -122,11 +136,17 @@ fn print_end(records: u32, in_numbers: bool) {
 
 // Prints that no record has the position: what stands behind the last, and how many records there are.
 fn print_over(found: Cut, records: u32, in_numbers: bool) {
-    let Cut::End = found else {
-        print_broken(records, in_numbers);
+    if in_numbers {
+        print_ending(found);
+    }
+    let answer = ending_answer(found);
+    if answer.number == Answer::COMMITTED.number {
+        say_end(records);
         return;
-    };
-    print_end(records, in_numbers);
+    }
+    if !in_numbers {
+        print_stopped(answer, records);
+    }
 }
 
 // Prints what was told of a record's bytes, and answers false where a read failed, of which nothing is printed.

@@ -35,7 +35,8 @@ pub fn name(answer: Answer) {
         7 => say(b"unfit pool"),
         8 => say(b"output short"),
         9 => say(b"bad limits"),
-        _ => say(b"broken log"),
+        10 => say(b"torn log"),
+        _ => say(b"impossible length"),
     }
 }
 

@@ -15,7 +15,7 @@ use Rattle.stream.specs.declared.closing.Ending.{Ending}
 use Rattle.stream.specs.declared.closing.Ending.the-variants.{Limits, Log, Unread}
 use Rattle.stream.specs.declared.input.Filled.{Filled}
 use Rattle.stream.specs.declared.turns.Progress.{Progress}
-use Rattle.stream.specs.Turns.{Closes, broken, unread, over}
+use Rattle.stream.specs.Turns.{Closes, stops, unread, over}
 use Rattle.stream.specs.Runs.{Head, Runs, limits-unread, refused, melded}
 
 -- 1 for an answer to the limits, else 0
@@ -26,7 +26,7 @@ limitsTold Unread = 0
 
 -- a log does not end with an answer to the limits
 log-ending : {p : Progress} {m carry m′ : List ℕ} {last : Ending} → Closes p m carry m′ last → limitsTold last ≡ 0
-log-ending (broken s) = refl
+log-ending (stops s) = refl
 log-ending (unread s f) = refl
 log-ending (over s f k) = refl
 

@@ -8,7 +8,7 @@ use lib.ListN.{length, take}
 use Rattle.words.specs.Choice.{if_then_else_}
 use Rattle.record.specs.Answer.{committed}
 use Rattle.log.specs.declared.found.Cut.{Cut}
-use Rattle.log.specs.declared.found.Cut.the-variants.{End, Broken}
+use Rattle.log.specs.declared.found.Cut.the-variants.{End, Impossible}
 use Rattle.log.specs.Walk.{joined}
 use Rattle.pool.specs.Image.{Fit}
 use Rattle.create.specs.Fresh.{Created}
@@ -23,7 +23,7 @@ use Rattle.lines.proofs.Parted.{part-ready, part-then, part-breaks, finished, s
 use Rattle.stream.specs.declared.closing.Ending.{Ending}
 use Rattle.stream.specs.declared.closing.Ending.the-variants.{Limits, Log, Unread}
 use Rattle.stream.specs.declared.turns.Progress.{Progress}
-use Rattle.stream.specs.Turns.{TurnIs, Turns, none-yet, one-more, Closes, broken, unread, over, Streamed}
+use Rattle.stream.specs.Turns.{TurnIs, Turns, none-yet, one-more, Closes, stops, unread, over, Streamed}
 
 -- the log goes on where another page may follow
 more-goes-on : (held : ℕ) (stopped : Bool) → Rattle.stream.specs.Turns.moreBy held stopped ≡ true → stopped ≡ false
@@ -72,22 +72,22 @@ module _ {m carry page : List ℕ} (fit : Fit m) (such : Such carry 0) where
       (subst (λ (l : List Fed). PartsFed (pages ++ (bytes ∷ parts)) m carry 0 l m″ last) (sym (append-assoc calls (t .fed .calls) qs))
       (turns-then ts (went-on ts on) (bytes ∷ parts) (t .fed .calls ++ qs) m″ last h))
 
-  -- turns that have stopped are a run over a broken log
-  turns-broken : {pages : List (List ℕ)} {calls : List Fed} {p : Progress} {m′ carry′ page′ : List ℕ} → Turns m carry page pages calls p m′ carry′ page′ → p .stopped ≡ true
-      → PartsFed pages m carry 0 calls m′ Broken
-  turns-broken none-yet e = absurd (true≢false (sym e))
-  turns-broken (one-more {pages = pages} {calls = calls} {p = p} {m′ = m₀} {carry′ = carry₀} {m″ = m₁} {carry″ = carry₁} {page″ = page₁} ts on t) e =
+  -- turns that have stopped are a run over a log with an impossible length
+  turns-stopped : {pages : List (List ℕ)} {calls : List Fed} {p : Progress} {m′ carry′ page′ : List ℕ} → Turns m carry page pages calls p m′ carry′ page′ → p .stopped ≡ true
+      → PartsFed pages m carry 0 calls m′ Impossible
+  turns-stopped none-yet e = absurd (true≢false (sym e))
+  turns-stopped (one-more {pages = pages} {calls = calls} {p = p} {m′ = m₀} {carry′ = carry₀} {m″ = m₁} {carry″ = carry₁} {page″ = page₁} ts on t) e =
       let bytes : List ℕ = take (t .read .held) page₁ in
       let (a, b) = turns-ready ts in
       let broke : t .going .stopped ≡ true = sym (ap (λ (q : Progress). q .stopped) (t .progress-is)) ∙ e in
       let h = part-breaks (subst (λ (x : Bool). PartCalls bytes m₀ carry₀ (p .carried) (t .fed .calls) m₁ carry₁ (t .going .carried) x) broke (t .fed .made)) a b [] in
-      turns-then ts (went-on ts on) (bytes ∷ []) (t .fed .calls) m₁ Broken h
+      turns-then ts (went-on ts on) (bytes ∷ []) (t .fed .calls) m₁ Impossible h
 
   -- however the turns of a log close
   closed : {p : Progress} {m′ carry′ page′ m″ : List ℕ} {pages : List (List ℕ)} {calls : List Fed} {last : Ending} → Turns m carry page pages calls p m′ carry′ page′
       → Closes p m′ carry′ m″ last → (found : Cut) → last ≡ Log found → (rs : List Fed) × PartsFed pages m carry 0 rs m″ found
-  closed {m′ = m′} {pages = pages} {calls = calls} ts (broken s) found e =
-      (calls, subst (λ (c : Cut). PartsFed pages m carry 0 calls m′ c) (ap foundIn e) (turns-broken ts s))
+  closed {m′ = m′} {pages = pages} {calls = calls} ts (stops s) found e =
+      (calls, subst (λ (c : Cut). PartsFed pages m carry 0 calls m′ c) (ap foundIn e) (turns-stopped ts s))
   closed ts (unread s f) found e = absurd (true≢false (ap isLog (sym e)))
   closed {pages = pages} {calls = calls} ts (over {m′ = m₁} {found = last} s f k) found e =
       let (_, b) = turns-ready ts in

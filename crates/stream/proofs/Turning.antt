@@ -10,7 +10,7 @@ use lib.Dec.{eqb}
 use lib.ListN.{length, take, length-append}
 use Rattle.words.specs.Choice.{if_then_else_}
 use Rattle.log.specs.declared.found.Cut.{Cut}
-use Rattle.log.specs.declared.found.Cut.the-variants.{Broken}
+use Rattle.log.specs.declared.found.Cut.the-variants.{Impossible}
 use Rattle.pages.specs.declared.told.Fed.{Fed}
 use Rattle.lines.specs.declared.parts.Going.{Going}
 use Rattle.lines.specs.Parts.{PartFed, Finishes}
@@ -19,7 +19,7 @@ use Rattle.stream.specs.declared.closing.Ending.the-variants.{Log, Unrea
 use Rattle.stream.specs.declared.input.Filled.{Filled}
 use Rattle.stream.specs.declared.turns.Progress.{Progress}
 use Rattle.stream.specs.Buffer.{Refilled}
-use Rattle.stream.specs.Turns.{moreBy, progressBy, TurnIs, Turns, none-yet, one-more, Closes, broken, unread, over, Streamed}
+use Rattle.stream.specs.Turns.{moreBy, progressBy, TurnIs, Turns, none-yet, one-more, Closes, stops, unread, over, Streamed}
 
 -- where the log goes on, another page may follow one that is not empty
 pub goes-by-size : (held : ℕ) (stopped : Bool) → stopped ≡ false → not (eqb held 0) ≡ moreBy held stopped
@@ -88,8 +88,8 @@ module _ (m carry page : List ℕ) (carried position : ℕ) (more failed stopped
       }
 
   -- the log does not go on
-  pub streamed-broken : stopped ≡ true → Streamed m carry page m′ (Log Broken)
-  streamed-broken e = closing m′ (Log Broken) (broken e)
+  pub streamed-stops : stopped ≡ true → Streamed m carry page m′ (Log Impossible)
+  streamed-stops e = closing m′ (Log Impossible) (stops e)
 
   -- a read failed
   pub streamed-unread : stopped ≡ false → failed ≡ true → Streamed m carry page m′ Unread

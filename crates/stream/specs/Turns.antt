@@ -8,7 +8,7 @@ use lib.Dec.{eqb}
 use lib.ListN.{length, take}
 use Rattle.words.specs.Choice.{if_then_else_}
 use Rattle.log.specs.declared.found.Cut.{Cut}
-use Rattle.log.specs.declared.found.Cut.the-variants.{Broken}
+use Rattle.log.specs.declared.found.Cut.the-variants.{Impossible}
 use Rattle.pages.specs.declared.told.Fed.{Fed}
 use Rattle.lines.specs.declared.parts.Going.{Going}
 use Rattle.lines.specs.Parts.{PartFed, Finishes}
@@ -54,9 +54,9 @@ pub data Turns (m carry page : List ℕ) : List (List ℕ) → List Fed → Prog
       → (t : TurnIs (p .carried) (p .position) m′ carry′ page′ m″ carry″ page″ p′)
       → Turns m carry page (pages ++ (take (t .read .held) page″ ∷ [])) (calls ++ t .fed .calls) p′ m″ carry″ page″
 
--- how a run of turns closes: broken where the log does not go on; where a read failed that alone is told; else the log is said to be over, and ends so
+-- how a run of turns closes: at an impossible length where the log does not go on; where a read failed that alone is told; else the log is said to be over, and ends so
 pub data Closes (p : Progress) (m carry : List ℕ) : List ℕ → Ending → Type 0 where
-  broken : p .stopped ≡ true → Closes p m carry m (Log Broken)
+  stops : p .stopped ≡ true → Closes p m carry m (Log Impossible)
   unread : p .stopped ≡ false → p .failed ≡ true → Closes p m carry m Unread
   over : {m′ carry′ : List ℕ} {found : Cut}
       → p .stopped ≡ false → p .failed ≡ false → Finishes m carry (p .carried) m′ carry′ found → Closes p m carry m′ (Log found)

@@ -72,7 +72,7 @@ pub fn meld_through(pool: &mut [u8], carry: &mut [u8], page: &mut [u8]) -> Endin
         stopped = progress.stopped;
     }
     if stopped {
-        return Ending::Log(Cut::Broken);
+        return Ending::Log(Cut::Impossible);
     }
     if failed {
         return Ending::Unread;

@@ -1,4 +1,4 @@
--- `cases::meld_log` meets its contract: the whole log as one part, broken in it or over behind it, is the card's (Parted.antt of `lines`).
+-- `cases::meld_log` meets its contract: the whole log as one part, with an impossible length in it or over behind it, is the card's (Parted.antt of `lines`).
 -- Assumes nothing.
 use Prim.Native.Nat.{ℕ}
 use borrow.Author.Needs.{needs}

@@ -5,7 +5,7 @@ use mathlib.Core.Path.{_≡_, refl}
 use mathlib.Core.Logic.{inl, inr, ⊎-elim}
 use borrow.Author.Needs.{needs}
 use lib.ListN.{length}
-use Rattle.stream.proofs.Turning.{Turned, turned-none, turned-on, ended-by, streamed-broken, streamed-unread, streamed-over}
+use Rattle.stream.proofs.Turning.{Turned, turned-none, turned-on, ended-by, streamed-stops, streamed-unread, streamed-over}
 use Rattle.stream.proofs.turns.meld_through.Statement.{statement}
 use Rattle.stream.proofs.turns.meld_through.Tie as tie
 
@@ -43,7 +43,7 @@ same-length-3 : tie.Need-same-length-3 Inv-loop μ-loop
 same-length-3 c = search needs
 
 returns : tie.Need-returns Inv-loop μ-loop
-returns c = streamed-broken _ _ _ _ _ _ _ _ _ _ _ _ (c .before .before .loop .inv .0) (ended-by _ _ (⊎-elim (λ w. inl (w .1 .left)) (λ w. inr (w .left)) (c .before .loop-test .came))) (search needs)
+returns c = streamed-stops _ _ _ _ _ _ _ _ _ _ _ _ (c .before .before .loop .inv .0) (ended-by _ _ (⊎-elim (λ w. inl (w .1 .left)) (λ w. inr (w .left)) (c .before .loop-test .came))) (search needs)
 
 same-length-4 : tie.Need-same-length-4 Inv-loop μ-loop
 same-length-4 c = search needs
