@@ -36,7 +36,8 @@ enum emuparasol_answer {
     EMUPARASOL_UNFIT_POOL = 7,        /* the bytes lent as a pool are none */
     EMUPARASOL_OUTPUT_SHORT = 8,      /* less room lent than needed */
     EMUPARASOL_BAD_LIMITS = 9,        /* N or Z outside its range, or a pool of another size */
-    EMUPARASOL_BROKEN_LOG = 10        /* the log does not go on with a whole record */
+    EMUPARASOL_TORN_LOG = 10,         /* too few bytes: the log merely stops, within a record */
+    EMUPARASOL_IMPOSSIBLE_LENGTH = 11 /* two bytes that are no length of a record: below 7 or above 903 */
 };
 
 /* The name of an answer, as the rules have it (R3); "unknown answer" for any other number. Plain C, no part of the archive. */
@@ -52,7 +53,8 @@ static inline const char *emuparasol_answer_name(uint8_t answer) {
         "unfit pool",
         "output short",
         "bad limits",
-        "broken log"
+        "torn log",
+        "impossible length"
     };
     return answer < sizeof names / sizeof *names ? names[answer] : "unknown answer";
 }
@@ -66,7 +68,7 @@ enum emuparasol_kind {
 
 /* What emuparasol_feed has done, each number with its one name. */
 enum emuparasol_happened {
-    EMUPARASOL_REFUSED = 0, /* no record was decided: the answer is 8, 10 or 7 */
+    EMUPARASOL_REFUSED = 0, /* no record was decided: the answer is 8, 11, 7 or 10 */
     EMUPARASOL_DECIDED = 1, /* one record was: the answer is its verdict, 6, 4, 5, 2, 1, 3 or 0 */
     EMUPARASOL_MORE = 2,    /* the part is taken, and the record's last byte is still to come */
     EMUPARASOL_END = 3      /* the log is over, behind a whole record or with none */
@@ -107,8 +109,9 @@ uint8_t emuparasol_meld(uint8_t *pool, uint64_t pool_length, const uint8_t *reco
    applies:
    - carry_length is not EMUPARASOL_CARRY_BYTES, or no call leaves a carry with such bytes and such a number: REFUSED, answers 8. Pool, carry and
      *carried are as before, and *taken is 0.
-   - The two bytes of a length below 7 or above 903 are carried: REFUSED, answers 10. Pool, carry and *carried are as before, and *taken is 0.
-   - The two bytes of such a length are in: REFUSED, answers 10. They are the carry's first two now, *carried is 2, and *taken is how many of them the
+   - The two bytes of a length below 7 or above 903 are carried: REFUSED, answers 11, to every part from then on. Pool, carry and *carried are as before,
+     and *taken is 0.
+   - The two bytes of such a length are in: REFUSED, answers 11. They are the carry's first two now, *carried is 2, and *taken is how many of them the
      part had, 1 or 2. The pool is as before.
    - The record's last byte is in, and the pool is unfit: REFUSED, answers 7. Pool, carry and *carried are as before, and *taken is 0.
    - The record's last byte is in: DECIDED, answers 6, 4, 5, 2, 1, 3 or 0, with the pool and *looks as emuparasol_meld leaves them. *taken is how many
@@ -117,7 +120,7 @@ uint8_t emuparasol_meld(uint8_t *pool, uint64_t pool_length, const uint8_t *reco
    - The log is not over: MORE, answers 0. All of the part is taken and stands in the carry behind what was carried, and *carried counts both. The pool
      is as before.
    - The log is over, and nothing is in: END, answers 0. Pool and carry are as before, *taken and *carried are 0.
-   - The log is over, and its last record is torn: REFUSED, answers 10. Pool, carry and *carried are as before, and *taken is 0.
+   - The log is over, and stops within its last record: REFUSED, answers 10. Pool, carry and *carried are as before, and *taken is 0.
    *looks is 0 unless a record was decided. The carry's bytes behind what is said of its front are always as before; at first they may be anything. */
 uint8_t emuparasol_feed(uint8_t *pool, uint64_t pool_length, uint8_t *carry, uint64_t carry_length, uint64_t *carried, const uint8_t *part,
                         uint64_t part_length, bool over, uint8_t *happened, uint32_t *looks, uint64_t *taken);
@@ -141,8 +144,8 @@ uint8_t emuparasol_refresh(const uint8_t *pool, uint64_t pool_length, const uint
                            uint64_t output_length);
 
 /* The record to append after a refresh that gave this answer: *length bytes from *offset on, in refreshed if true is answered, else in original.
-   After 5 it is all of original; after 0 the record at the front of refreshed, if a log could begin with it; else *length is 0 and there is none.
-   *offset is always 0. */
+   After 5 it is all of original; after 0 the record at the front of refreshed, if one stands there; else (also where emuparasol_cut would say there that
+   the log ends, or 10, or 11) *length is 0 and there is none. *offset is always 0. */
 bool emuparasol_in_force(uint8_t answer, const uint8_t *original, uint64_t original_length, const uint8_t *refreshed, uint64_t refreshed_length,
                          uint64_t *offset, uint64_t *length);
 
@@ -165,7 +168,9 @@ uint8_t emuparasol_write(uint32_t snapshot, const uint8_t *kinds, uint64_t kinds
                          uint64_t highs_length, uint8_t *output, uint64_t output_length, uint64_t *size);
 
 /* What stands at a place of a log. Answers 0 with *next above place: a record, up to *next; it need not be well formed. Answers 0 with *next equal to
-   place: the log ends exactly here. Answers 10 with *next equal to place: neither, or a place past the end. */
+   place: the log ends exactly here. Answers 10 with *next equal to place: there are too few bytes, and the log merely stops; fewer than two are left, or
+   fewer than the record has, or the place is past the end. Answers 11 with *next equal to place: the two bytes there are no length of a record, below 7
+   or above 903, however many bytes follow them. */
 uint8_t emuparasol_cut(const uint8_t *log, uint64_t log_length, uint64_t place, uint64_t *next);
 
 #ifdef __cplusplus

@@ -31,7 +31,7 @@ fn noticed(name: &str, edit: impl FnOnce(&mut Sources)) {
 fn the_committed_files_agree() {
     let (found, functions, answers) = committed().differences().expect("known forms");
     assert_eq!(found, Vec::<String>::new());
-    assert_eq!((functions, answers), (12, 11));
+    assert_eq!((functions, answers), (12, 12));
 }
 
 #[test]
@@ -79,7 +79,22 @@ fn a_changed_header_is_noticed() {
             "\"malformed\",\n        \"ahead\"",
             "\"ahead\",\n        \"malformed\"",
         ),
-        ("BROKEN_LOG = 10", ",\n        \"broken log\"", ""),
+        ("TORN_LOG = 10", "\"torn log\"", "\"cut log\""),
+        (
+            "TORN_LOG = 10",
+            "\"torn log\",\n        \"impossible length\"",
+            "\"impossible length\",\n        \"torn log\"",
+        ),
+        (
+            "IMPOSSIBLE_LENGTH = 11",
+            ",\n        \"impossible length\"",
+            "",
+        ),
+        (
+            "IMPOSSIBLE_LENGTH = 11",
+            "EMUPARASOL_IMPOSSIBLE_LENGTH = 11",
+            "EMUPARASOL_IMPOSSIBLE_LENGTH = 10",
+        ),
         (
             "version",
             "EMUPARASOL_VERSION \"0.1.0\"",
@@ -174,8 +189,20 @@ fn changed_answers_are_noticed() {
     noticed("OUTPUT_SHORT", |it| {
         change(&mut it.rust_answers, "Error::OutputShort => 8,", "")
     });
-    noticed("BROKEN_LOG", |it| {
+    // The two that a log stops with are told apart everywhere.
+    noticed("TORN_LOG", |it| {
         change(&mut it.rattle_answers, "number: 10", "number: 11")
+    });
+    noticed("IMPOSSIBLE_LENGTH", |it| {
+        change(&mut it.rattle_answers, "number: 11", "number: 10")
+    });
+    noticed("TORN_LOG", |it| {
+        let (from, to) = ("Error::TornLog => 10", "Error::TornLog => 11");
+        change(&mut it.rust_answers, from, to)
+    });
+    noticed("IMPOSSIBLE_LENGTH", |it| {
+        let (from, to) = ("Error::ImpossibleLength => 11,", "");
+        change(&mut it.rust_answers, from, to)
     });
 }
 
