@@ -288,15 +288,21 @@ uint8_t plain_write(uint32_t snapshot, const uint8_t *kinds, uint64_t kinds_leng
     return EMUPARASOL_COMMITTED;
 }
 
+/* The two bytes of a record's length, one of which may lie in the carry, and whether no record has it. */
+static inline uint64_t length_of(uint8_t high, uint8_t low) { return (uint64_t)(high << 8 | low); }
+static inline bool impossible(uint64_t length) { return length < 7 || length > 903; }
+
 uint8_t plain_cut(const uint8_t *log, uint64_t log_length, uint64_t place, uint64_t *next) {
     *next = place;
     if (place == log_length)
         return EMUPARASOL_COMMITTED;
     if (place > log_length || log_length - place < 2)
-        return EMUPARASOL_BROKEN_LOG;
-    uint64_t length = (uint64_t)(log[place] << 8 | log[place + 1]);
-    if (length < 7 || length > 903 || log_length - place < 2 + length)
-        return EMUPARASOL_BROKEN_LOG;
+        return EMUPARASOL_TORN_LOG;
+    uint64_t length = length_of(log[place], log[place + 1]);
+    if (impossible(length))
+        return EMUPARASOL_IMPOSSIBLE_LENGTH;
+    if (log_length - place < 2 + length)
+        return EMUPARASOL_TORN_LOG;
     *next = place + 2 + length;
     return EMUPARASOL_COMMITTED;
 }
@@ -566,10 +572,6 @@ uint8_t plain_explain(const uint8_t *pool, uint64_t pool_length, const uint8_t *
     return EMUPARASOL_NO_ROOM;
 }
 
-/* The two bytes of a record's length, one of which may lie in the carry. */
-static inline uint64_t length_of(uint8_t high, uint8_t low) { return (uint64_t)(high << 8 | low); }
-static inline bool impossible(uint64_t length) { return length < 7 || length > 903; }
-
 /* Whether a call leaves such a carry. */
 static bool may_carry(const uint8_t *carry, uint64_t carry_length, uint64_t carried) {
     if (carry_length != EMUPARASOL_CARRY_BYTES)
@@ -598,7 +600,7 @@ uint8_t plain_feed(uint8_t *pool, uint64_t pool_length, uint8_t *carry, uint64_t
                 memcpy(carry + before, part, fresh);
             *taken = fresh;
             *carried = 2;
-            return EMUPARASOL_BROKEN_LOG;
+            return EMUPARASOL_IMPOSSIBLE_LENGTH;
         }
         size = 2 + length;
     }
@@ -623,7 +625,7 @@ uint8_t plain_feed(uint8_t *pool, uint64_t pool_length, uint8_t *carry, uint64_t
         return EMUPARASOL_COMMITTED;
     }
     if (before + part_length > 0)
-        return EMUPARASOL_BROKEN_LOG;
+        return EMUPARASOL_TORN_LOG;
     *happened = EMUPARASOL_END;
     return EMUPARASOL_COMMITTED;
 }

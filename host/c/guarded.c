@@ -370,8 +370,9 @@ static void try_feed(uint8_t *bytes, uint64_t length) {
         feed_anything(bytes, length, part);
         return;
     }
-    if (feed(bytes, length, carry, sizeof carry, &carried, part, &taken) == EMUPARASOL_BROKEN_LOG && one_in(2)) {
-        carried = stream_length = 0; /* nothing more comes of this log */
+    uint8_t answer = feed(bytes, length, carry, sizeof carry, &carried, part, &taken);
+    if ((answer == EMUPARASOL_TORN_LOG || answer == EMUPARASOL_IMPOSSIBLE_LENGTH) && one_in(2)) {
+        carried = stream_length = 0; /* another log; else its next part, to which an impossible length is said again */
         return;
     }
     stream_length -= taken;
@@ -393,7 +394,7 @@ static void try_refresh(uint8_t *bytes, uint64_t length) {
     same(&output_area, output, "the outputs differ");
     doing = "in_force";
     if (one_in(4))
-        answer = (uint8_t)below(12);
+        answer = (uint8_t)below(13);
     uint64_t *to = number(0, 8), *also = number(1, 8);
     bool found = emuparasol_in_force(answer, shown(&record_area), size, shown(&output_area), room, to, also);
     answered(found, plain_in_force(answer, record, size, output, room, &offset, &part));
@@ -506,12 +507,12 @@ static void try_nothing(void) {
     if (h != EMUPARASOL_MORE)
         fail("something else than more where nothing was lent");
     expected(emuparasol_refresh(NULL, 0, NULL, 0, NULL, 0), EMUPARASOL_UNFIT_POOL);
-    expected(emuparasol_in_force((uint8_t)below(12), NULL, 0, NULL, 0, &a, &b), false);
+    expected(emuparasol_in_force((uint8_t)below(13), NULL, 0, NULL, 0, &a, &b), false);
     expected(emuparasol_check(NULL, 0), EMUPARASOL_MALFORMED);
     expected(emuparasol_read(NULL, 0, NULL, 0, NULL, 0, NULL, 0, NULL, 0, NULL, 0, &p, &a, &b), EMUPARASOL_MALFORMED);
     expected(emuparasol_write(any(), NULL, 0, NULL, 0, NULL, 0, NULL, 0, NULL, 0, NULL, 0, &c), EMUPARASOL_OUTPUT_SHORT);
     expected(emuparasol_cut(NULL, 0, 0, &a), EMUPARASOL_COMMITTED);
-    expected(emuparasol_cut(NULL, 0, 1 + any(), &b), EMUPARASOL_BROKEN_LOG);
+    expected(emuparasol_cut(NULL, 0, 1 + (uint64_t)any(), &b), EMUPARASOL_TORN_LOG);
 }
 
 /* A pool from its creation through some records, with everything else tried along the way. */
@@ -592,7 +593,7 @@ int main(int argc, char **argv) {
     while (time(NULL) < until);
     printf("guarded: %llu calls in %.0f s, seed %llu: no difference, nothing touched that was not lent\nanswers", (unsigned long long)calls,
            difftime(time(NULL), now), (unsigned long long)seed);
-    for (int i = 0; i < 11; i++) {
+    for (int i = 0; i < 12; i++) {
         printf(" %d:%lu", i, answers[i]);
         if (answers[i] == 0)
             fail("\nan answer did not occur");
