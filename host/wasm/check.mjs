@@ -26,9 +26,9 @@ function lines(input) {
   if (created !== 0) return [`${created}`];
   const records = input.subarray(8), size = BigInt(records.length), said = [];
   all.set(records, log);
-  let place = 0n;
+  let place = 0n, answer;
   for (;;) {
-    const answer = emuparasol_cut(log, size, place, numbers + 8);
+    answer = emuparasol_cut(log, size, place, numbers + 8);
     const next = view().getBigUint64(numbers + 8, true);
     if (answer !== 0 || next === place) break;
     const melded = emuparasol_meld(pool, BigInt(length), log + Number(place), next - place, numbers);
@@ -37,7 +37,7 @@ function lines(input) {
   }
   if (all.subarray(pool + length, log).some((byte) => byte !== 0xa5)) throw new Error("a byte behind the pool was written");
   if (Buffer.compare(Buffer.from(all.subarray(log, log + records.length)), records) !== 0) throw new Error("the log was written");
-  return [...said, place === size ? "end" : "10"];
+  return [...said, answer === 0 ? "end" : `${answer}`]; // 10 where the log is torn, 11 at an impossible length
 }
 
 let right = 0, wrong = 0;
