@@ -77,7 +77,7 @@ impl fmt::Display for Verdict {
     }
 }
 
-/// Why a call did not do what it was asked: answers 1 to 10. What a refusal leaves
+/// Why a call did not do what it was asked: answers 1 to 11. What a refusal leaves
 /// behind is said at each call; in a word, everything as it was.
 ///
 /// ```
@@ -109,8 +109,12 @@ pub enum Error {
     OutputShort,
     /// N or Z outside its range, or bytes of another size than 64 + 64·N.
     BadLimits,
-    /// The log does not go on with a whole record.
-    BrokenLog,
+    /// Too few bytes: the log merely stops, within a record. More may come, or an append
+    /// was cut short.
+    TornLog,
+    /// Two bytes that are no length of a record, below 7 or above 903: no record can
+    /// stand there, whatever comes behind them.
+    ImpossibleLength,
     /// A number that R3 does not have, or 0 beside a length or a number that cannot be.
     /// The library is proved to answer no such thing; another archive might.
     Unknown(u8),
@@ -129,7 +133,8 @@ impl Error {
             Error::UnfitPool => 7,
             Error::OutputShort => 8,
             Error::BadLimits => 9,
-            Error::BrokenLog => 10,
+            Error::TornLog => 10,
+            Error::ImpossibleLength => 11,
             Error::Unknown(number) => number,
         }
     }
@@ -154,7 +159,8 @@ impl Error {
             Error::UnfitPool => "unfit pool",
             Error::OutputShort => "output short",
             Error::BadLimits => "bad limits",
-            Error::BrokenLog => "broken log",
+            Error::TornLog => "torn log",
+            Error::ImpossibleLength => "impossible length",
             Error::Unknown(_) => "unknown answer",
         }
     }
@@ -171,7 +177,8 @@ impl Error {
             7 => Error::UnfitPool,
             8 => Error::OutputShort,
             9 => Error::BadLimits,
-            10 => Error::BrokenLog,
+            10 => Error::TornLog,
+            11 => Error::ImpossibleLength,
             number => Error::Unknown(number),
         }
     }

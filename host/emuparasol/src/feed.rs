@@ -80,12 +80,13 @@ impl<B: AsMut<[u8]>> Pool<B> {
     /// the verdicts, the looks and the pool are those of its records melded one by one.
     ///
     /// # Errors
-    /// [`Error::BrokenLog`] as soon as the two bytes of a length that no record has are
-    /// in, and from then on at each call with this carry; or, with `over`, if the last
-    /// record is torn. [`Error::UnfitPool`] once a record is whole: pool and carry are as
-    /// they were. [`Error::PositionsUsedUp`] once a record is whole: the pool is as it
-    /// was, the carry carries nothing more of that record, and every record behind it
-    /// would be answered so.
+    /// [`Error::ImpossibleLength`] as soon as the two bytes of a length that no record has
+    /// are in, and from then on at each call with this carry. [`Error::TornLog`] only with
+    /// `over`, if the log stops within its last record: pool and carry are as they were.
+    /// [`Error::UnfitPool`] once a record is whole: pool and carry are as they were.
+    /// [`Error::PositionsUsedUp`] once a record is whole: the pool is as it was, the carry
+    /// carries nothing more of that record, and every record behind it would be answered
+    /// so.
     ///
     /// ```
     /// use emuparasol::{pool_bytes, Carry, Error, Fed, Limits, Pool, Verdict};

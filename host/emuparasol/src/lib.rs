@@ -25,7 +25,7 @@ mod record;
 
 pub use answer::{Error, Verdict};
 pub use feed::{Carry, Fed, CARRY_BYTES};
-pub use log::{BrokenLog, Records};
+pub use log::{NoRecord, Records};
 pub use pool::{in_force, pool_bytes, Found, Limits, Melded, Pool, Status};
 pub use reason::{Explained, Reason, Touch};
 pub use record::{

@@ -5,25 +5,31 @@ use core::iter::FusedIterator;
 
 use crate::answer::Error;
 use crate::calls;
-use crate::record::MOST_RECORD;
 
 /// The records of a log, one after the other, each as its bytes.
 ///
 /// It ends where the log ends. Where the log does not go on with a whole record it
-/// gives one [`BrokenLog`] that says the place, and then ends. A record that is
-/// given need not be well formed: it takes its position all the same, and
-/// [`Pool::meld`](crate::Pool::meld) says so.
+/// gives one [`NoRecord`] that says the place and why, a torn log or an impossible
+/// length, and then ends. A record that is given need not be well formed: it takes its
+/// position all the same, and [`Pool::meld`](crate::Pool::meld) says so.
 ///
 /// ```
-/// use emuparasol::Records;
+/// use emuparasol::{Error, Records};
 ///
 /// // A record of 9 bytes, and the first four of another.
-/// let log = [0, 7, 1, 0, 0, 0, 0, 0, 0, 0, 7, 1, 0];
+/// let mut log = [0, 7, 1, 0, 0, 0, 0, 0, 0, 0, 7, 1, 0];
 /// let mut records = Records::new(&log);
 /// assert_eq!(records.next(), Some(Ok(&log[..9])));
-/// let broken = records.next().and_then(Result::err).ok_or("a whole log")?;
-/// assert_eq!((broken.place, broken.torn), (9, true));
+/// let stopped = records.next().and_then(Result::err).ok_or("a whole log")?;
+/// assert_eq!((stopped.place, stopped.why), (9, Error::TornLog));
+/// assert_eq!(stopped.to_string(), "torn log at byte 9");
 /// assert_eq!(records.next(), None);
+///
+/// // The same, and the flash has lost the second length.
+/// (log[9], log[10]) = (0xFF, 0xFF);
+/// let stopped = Records::at(&log, 9).next().and_then(Result::err).ok_or("a whole log")?;
+/// assert_eq!((stopped.place, stopped.why), (9, Error::ImpossibleLength));
+/// assert_eq!(stopped.to_string(), "impossible length at byte 9");
 /// # Ok::<(), &str>(())
 /// ```
 #[derive(Clone, Debug)]
@@ -31,7 +37,7 @@ use crate::record::MOST_RECORD;
 pub struct Records<'a> {
     log: &'a [u8],
     place: usize,
-    /// Was the broken place told?
+    /// Was it told that no record stands there?
     told: bool,
 }
 
@@ -41,22 +47,22 @@ impl<'a> Records<'a> {
         Records::at(log, 0)
     }
 
-    /// The records from a place on, where an earlier walk has come to; a place past
-    /// the end is broken.
+    /// The records from a place on, where an earlier walk has come to. At a place past
+    /// the end the log is torn.
     pub const fn at(log: &'a [u8], place: usize) -> Records<'a> {
         let told = false;
         Records { log, place, told }
     }
 
     /// The place behind the last record given: where the next one begins, where the
-    /// log ends, or where it is broken.
+    /// log ends, or where no record stands.
     pub const fn place(&self) -> usize {
         self.place
     }
 }
 
 impl<'a> Iterator for Records<'a> {
-    type Item = Result<&'a [u8], BrokenLog>;
+    type Item = Result<&'a [u8], NoRecord>;
 
     fn next(&mut self) -> Option<Self::Item> {
         if self.told {
@@ -73,10 +79,10 @@ impl<'a> Iterator for Records<'a> {
                 self.place = place.saturating_add(record.len());
                 Some(Ok(record))
             }
-            _ => {
+            (answer, _) => {
                 self.told = true;
-                let torn = self.log.get(place..).is_some_and(torn);
-                Some(Err(BrokenLog { place, torn }))
+                let why = Error::of(answer);
+                Some(Err(NoRecord { place, why }))
             }
         }
     }
@@ -84,40 +90,28 @@ impl<'a> Iterator for Records<'a> {
 
 impl FusedIterator for Records<'_> {}
 
-/// Answer 10: no whole record stands at this place of the log.
+/// Answer 10 or 11: the log does not end at this place, and no whole record stands there.
 #[derive(Clone, Copy, Debug, PartialEq, Eq, Hash)]
 #[non_exhaustive]
-pub struct BrokenLog {
+pub struct NoRecord {
     /// Where the record should begin; the first byte of a log has place 0.
     pub place: usize,
-    /// Can a record begin with the bytes that are left there? Then it is not all there
-    /// yet, or was torn when it was appended. If not, no record can stand there, whatever
-    /// is appended.
-    pub torn: bool,
+    /// [`Error::TornLog`] if there are too few bytes: the record is not all there yet, or
+    /// its append was cut short. [`Error::ImpossibleLength`] if no record can stand there,
+    /// whatever is appended: its two first bytes are no length.
+    pub why: Error,
 }
 
-/// Can a record begin with these bytes, which are no whole one? The library is asked,
-/// with as many bytes behind them as the longest record has: only a length that cannot
-/// be is broken then.
-fn torn(rest: &[u8]) -> bool {
-    let mut part = [0; MOST_RECORD];
-    for (to, from) in part.iter_mut().zip(rest) {
-        *to = *from;
-    }
-    let mut next = 0;
-    rest.len() < 2 || calls::cut(&part, 0, &mut next) == 0
-}
-
-impl fmt::Display for BrokenLog {
+impl fmt::Display for NoRecord {
     fn fmt(&self, out: &mut fmt::Formatter<'_>) -> fmt::Result {
-        write!(out, "{} at byte {}", Error::BrokenLog, self.place)
+        write!(out, "{} at byte {}", self.why, self.place)
     }
 }
 
-impl core::error::Error for BrokenLog {}
+impl core::error::Error for NoRecord {}
 
-impl From<BrokenLog> for Error {
-    fn from(_: BrokenLog) -> Error {
-        Error::BrokenLog
+impl From<NoRecord> for Error {
+    fn from(stopped: NoRecord) -> Error {
+        stopped.why
     }
 }

@@ -1,6 +1,6 @@
 //! The answers have the numbers and names of R3, as docs/RULES.md prints them.
 
-use emuparasol::{BrokenLog, Error, Records, Verdict};
+use emuparasol::{Error, NoRecord, Records, Verdict};
 use std::error::Error as AnyError;
 
 /// The answers of the table of R3, by number.
@@ -22,13 +22,13 @@ fn of_rules() -> Vec<(u8, String)> {
 }
 
 #[test]
-fn r3_has_eleven_answers() {
+fn r3_has_twelve_answers() {
     let numbers: Vec<u8> = of_rules().into_iter().map(|(number, _)| number).collect();
-    assert_eq!(numbers, (0..=10).collect::<Vec<u8>>());
+    assert_eq!(numbers, (0..=11).collect::<Vec<u8>>());
 }
 
 #[test]
-fn errors_are_the_answers_1_to_10() {
+fn errors_are_the_answers_1_to_11() {
     assert_eq!(Error::from_number(0), None);
     for (number, name) in of_rules().into_iter().skip(1) {
         let error = Error::from_number(number).expect("a refusal");
@@ -40,7 +40,7 @@ fn errors_are_the_answers_1_to_10() {
         let case = format!("{error:?}").to_lowercase();
         assert_eq!(case, name.replace(' ', ""));
     }
-    for number in 11..=255 {
+    for number in 12..=255 {
         let error = Error::from_number(number).expect("a refusal");
         assert_eq!(error, Error::Unknown(number));
         assert_eq!(error.number(), number);
@@ -64,7 +64,7 @@ fn verdicts_are_the_answers_0_to_5() {
         assert_eq!(case, name.replace(' ', ""));
         assert_eq!(verdict.committed().err(), Error::from_number(number));
     }
-    assert!((11..=255).all(|number| Verdict::from_number(number).is_none()));
+    assert!((6..=255).all(|number| Verdict::from_number(number).is_none()));
 }
 
 #[test]
@@ -77,13 +77,22 @@ fn they_pass_as_errors_of_any_kind() {
     }
     let said = |log: &[u8]| meld_all(log).expect_err("a refusal").to_string();
     assert_eq!(said(&[0, 7, 1, 0, 0, 0, 0, 0, 1]), "malformed");
-    let torn = [0, 7, 1, 0, 0, 0, 0, 0, 0, 0];
-    assert_eq!(said(&torn), "broken log at byte 9");
-    let broken: BrokenLog = Records::at(&torn, 9)
-        .next()
-        .and_then(Result::err)
-        .expect("torn");
-    assert_eq!(Error::from(broken), Error::BrokenLog);
+    // A whole record, and one byte or two of what comes behind it.
+    for (behind, why) in [
+        (&[0xFF][..], Error::TornLog),
+        (&[0, 7], Error::TornLog),
+        (&[0, 6], Error::ImpossibleLength),
+        (&[0xFF, 0xFF], Error::ImpossibleLength),
+    ] {
+        let log = [&[0, 7, 1, 0, 0, 0, 0, 0, 0][..], behind].concat();
+        assert_eq!(said(&log), format!("{why} at byte 9"));
+        let step = Records::at(&log, 9).next();
+        let stopped: NoRecord = step.and_then(Result::err).expect("no record");
+        assert_eq!((stopped.place, stopped.why), (9, why));
+        assert_eq!(Error::from(stopped), why);
+    }
+    assert_eq!(said(&[0]), "torn log at byte 0");
+    assert_eq!(said(&[0, 0]), "impossible length at byte 0");
 }
 
 #[test]

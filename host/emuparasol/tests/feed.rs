@@ -8,7 +8,7 @@ use common::{fresh, means, seeded};
 use emuparasol::{Carry, Error, Pool, Verdict, CARRY_BYTES};
 use reference::program::split;
 use reference::random::Random;
-use reference::{Limits, State};
+use reference::{Limits, LogReader, State, Step};
 
 /// What happened, as the header numbers it.
 const REFUSED: u8 = 0;
@@ -55,7 +55,9 @@ impl Feeder {
             }
             (MORE, 0) => Ok((2, None)),
             (END, 0) => Ok((3, None)),
-            (DECIDED, 6) | (REFUSED, 7 | 10) => Err(Error::from_number(fed.answer).expect("not 0")),
+            (DECIDED, 6) | (REFUSED, 7 | 10 | 11) => {
+                Err(Error::from_number(fed.answer).expect("not 0"))
+            }
             other => panic!("{other:?}"),
         };
         let said = said.map(|fed| match fed {
@@ -99,8 +101,8 @@ impl Feeder {
     }
 }
 
-/// What a walk over a log says: a verdict and looks for each record, and the ending, 10 or
-/// `END` for the end.
+/// What a walk over a log says: a verdict and looks for each record, and the ending, 10, 11
+/// or `END` for the end.
 type Walk = (Vec<(u8, u32)>, u8);
 
 /// The whole log by the reference.
@@ -112,7 +114,12 @@ fn walk(limits: Limits, log: &[u8]) -> (Walk, State) {
         (verdict.answer.number(), verdict.looks)
     };
     let verdicts = parts.iter().map(|part| verdict(&mut state, part)).collect();
-    let ending = if rest.is_empty() { END } else { 10 };
+    let ending = match LogReader::at(log, log.len() - rest.len()).step() {
+        Step::End => END,
+        Step::Torn => 10,
+        Step::Impossible => 11,
+        Step::Part(part) => panic!("a record behind the last: {part:?}"),
+    };
     ((verdicts, ending), state)
 }
 
@@ -127,10 +134,8 @@ fn fed<'a>(feeder: &mut Feeder, parts: impl IntoIterator<Item = &'a [u8]>) -> Wa
             match fed.happened {
                 DECIDED => verdicts.push((fed.answer, fed.looks)),
                 MORE => break assert_eq!(fed.taken, rest.len()),
-                REFUSED => {
-                    assert_eq!(fed.answer, 10);
-                    break;
-                }
+                // The log is not over, so it is not torn; and every later part is told the same.
+                REFUSED => break assert_eq!(fed.answer, 11),
                 other => panic!("{other}"),
             }
             rest = &rest[fed.taken..];
@@ -172,12 +177,13 @@ fn cut_at_every_byte() {
 #[test]
 fn in_parts_of_any_size() {
     let mut random = Random::new(21);
-    let (mut whole, mut torn) = (0, 0);
+    let (mut whole, mut torn, mut impossible) = (0, 0, 0);
     for (limits, log) in logs(0..60, 6_000) {
         let (expected, state) = walk(limits, &log);
         match expected.1 {
             END => whole += 1,
-            _ => torn += 1,
+            10 => torn += 1,
+            _ => impossible += 1,
         }
         for size in [1, 2, 3, 256, 905, 2_048, usize::MAX] {
             let mut feeder = Feeder::new(limits);
@@ -199,7 +205,10 @@ fn in_parts_of_any_size() {
         assert_eq!(fed(&mut feeder, parts), expected);
         means(&feeder.pool, &state);
     }
-    assert!(whole > 10 && torn > 10, "{whole} {torn}");
+    assert!(
+        whole > 10 && torn > 5 && impossible > 5,
+        "{whole} {torn} {impossible}"
+    );
 }
 
 #[test]
@@ -241,9 +250,10 @@ fn an_impossible_length_is_said_as_soon_as_it_is_in() {
             }
             let mut feeder = Feeder::new(small());
             let first = feeder.feed(&bytes[..cut], false);
-            assert_eq!(first.answer == 10, cut == 2 && !possible);
+            let said = |impossible| if impossible { 11 } else { 0 };
+            assert_eq!(first.answer, said(cut == 2 && !possible));
             let second = feeder.feed(&bytes[cut..], false);
-            assert_eq!(second.answer == 10, !possible, "{length}");
+            assert_eq!(second.answer, said(!possible), "{length}");
             if !possible {
                 assert_eq!((second.taken, feeder.front()), (2 - cut, &bytes[..]));
                 for (part, over) in [
@@ -255,8 +265,9 @@ fn an_impossible_length_is_said_as_soon_as_it_is_in() {
                     let again = feeder.feed(part, over);
                     assert_eq!(
                         (again.happened, again.answer, again.taken),
-                        (REFUSED, 10, 0)
+                        (REFUSED, 11, 0)
                     );
+                    assert_eq!(feeder.front(), &bytes[..]);
                 }
             }
         }
@@ -264,7 +275,20 @@ fn an_impossible_length_is_said_as_soon_as_it_is_in() {
 }
 
 #[test]
-fn a_torn_end_is_broken_only_when_the_log_is_over() {
+fn an_impossible_length_is_said_to_every_later_part() {
+    for behind in [&[0x03, 0x88][..], &[0, 0], &[0xFF; 905]] {
+        let log = [&EMPTY[..], behind].concat();
+        for cut in 0..=EMPTY.len() + 2 {
+            let mut feeder = Feeder::new(small());
+            let parts = [&log[..cut], &log[cut..], &EMPTY, &[], &log];
+            assert_eq!(fed(&mut feeder, parts), (vec![(0, 0)], 11));
+            assert_eq!(feeder.front(), &behind[..2]);
+        }
+    }
+}
+
+#[test]
+fn a_torn_end_is_said_only_when_the_log_is_over() {
     for end in 1..EMPTY.len() {
         let mut feeder = Feeder::new(small());
         assert_eq!(feeder.feed(&EMPTY[..end], false).happened, MORE);
@@ -381,7 +405,7 @@ fn a_carry_says_what_it_carries() {
     assert!(carry.as_bytes().is_empty() && copy.as_bytes().is_empty());
     assert_eq!(
         pool.feed(&mut carry, &[0, 3, 9], false),
-        Err(Error::BrokenLog)
+        Err(Error::ImpossibleLength)
     );
     assert_eq!(carry.as_bytes(), [0, 3]);
 }

@@ -231,7 +231,7 @@ fn fickle_bytes_are_answered() {
     let mut pool = Pool::create(Fickle { bytes, calls }, LIMITS).expect("the whole bytes");
     let records = some_records();
     let mut output = [0; 60];
-    let mut said = [0; 11];
+    let mut said = [0; 12];
     for turn in 0..60 {
         let number = match turn % 5 {
             0 if turn % 3 == 0 => common::number(&pool.explain(&records[0])),
@@ -262,8 +262,17 @@ fn in_force_by_answer() {
     let refreshed = record(5, &[Point::read(1)]);
     let behind = [&refreshed[..], &[1, 2, 3]].concat();
     assert_eq!(in_force(Ok(&behind), &original), Some(&refreshed[..]));
-    assert_eq!(in_force(Ok(&refreshed[..9]), &original), None);
+    // No record stands there: the end, a torn log, an impossible length.
     assert_eq!(in_force(Ok(&[]), &original), None);
+    for end in 1..refreshed.len() {
+        assert_eq!(in_force(Ok(&refreshed[..end]), &original), None);
+    }
+    for length in [0, 6, 904, u16::MAX] {
+        let mut wrong = vec![0; 2 + usize::from(length)];
+        wrong[..2].copy_from_slice(&length.to_be_bytes());
+        assert_eq!(in_force(Ok(&wrong), &original), None, "{length}");
+        assert_eq!(in_force(Ok(&wrong[..2]), &original), None, "{length}");
+    }
     for number in 1..=255 {
         let error = Error::from_number(number).expect("a refusal");
         let expected = (error == Error::Ahead).then_some(&original[..]);

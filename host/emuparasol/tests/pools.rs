@@ -10,8 +10,8 @@ use reference::{Answer, Limits, Point, Record, Scan, State};
 
 #[test]
 fn logs_from_seeds() {
-    let mut counts = [0; 11];
-    let mut refreshed = [0; 11];
+    let mut counts = [0; 12];
+    let mut refreshed = [0; 12];
     for seed in 0..260 {
         let Some((limits, records)) = seeded(seed) else {
             continue;
@@ -44,7 +44,7 @@ fn logs_from_seeds() {
             counts[usize::from(answer.number())] += 1;
         }
     }
-    let often = |numbers: &[usize], counts: &[u32; 11]| numbers.iter().all(|&it| counts[it] > 20);
+    let often = |numbers: &[usize], counts: &[u32; 12]| numbers.iter().all(|&it| counts[it] > 20);
     assert!(often(&[0, 1, 2, 3, 4, 5], &counts), "{counts:?}");
     assert!(often(&[0, 1, 2, 4, 5, 8], &refreshed), "{refreshed:?}");
 }

@@ -69,8 +69,9 @@ fn read_typed(bytes: &[u8]) {
 fn cut_both(log: &[u8], place: usize) {
     let mut reader = LogReader::at(log, place);
     let answer = match reader.step() {
-        Step::Broken => Answer::BrokenLog,
-        _ => Answer::Committed,
+        Step::Torn => Answer::TornLog,
+        Step::Impossible => Answer::ImpossibleLength,
+        Step::Part(_) | Step::End => Answer::Committed,
     };
     assert_eq!(cut(log, place), (answer.number(), reader.place()));
 }
@@ -264,7 +265,7 @@ fn typed(lists: &Lists) -> Option<(Vec<emuparasol::Point>, Vec<emuparasol::Scan>
 #[test]
 fn lists_written_valid_and_damaged() {
     let mut random = Random::new(4);
-    let mut counts = [0; 11];
+    let mut counts = [0; 12];
     for round in 0..600 {
         let length = 9 + random.below(897);
         let Some(record) = of_length(length, &mut random) else {

@@ -27,7 +27,12 @@ fn call(pool: &[u8], carry: &[u8], carried: usize, part: &[u8], over: bool) -> T
 
 /// What is said, from the number of what happened and the answer.
 fn said(happened: u8, answer: u8) -> Said {
-    let refusals = [Answer::UnfitPool, Answer::OutputShort, Answer::BrokenLog];
+    let refusals = [
+        Answer::UnfitPool,
+        Answer::OutputShort,
+        Answer::TornLog,
+        Answer::ImpossibleLength,
+    ];
     match (happened, Answer::ALL[usize::from(answer)]) {
         (0, answer) if refusals.contains(&answer) => Said::Answer(answer),
         (1, answer) if answer < Answer::UnfitPool => Said::Answer(answer),
@@ -39,7 +44,7 @@ fn said(happened: u8, answer: u8) -> Said {
 
 #[test]
 fn calls_from_seeds_say_and_leave_what_the_reference_does() {
-    let mut refused = 0;
+    let mut refused = [0; 12];
     for seed in 0..4_000 {
         let lent = Call::of(seed);
         let (mut pool, mut state) = (fresh(lent.limits), State::new(lent.limits));
@@ -61,9 +66,14 @@ fn calls_from_seeds_say_and_leave_what_the_reference_does() {
         if lent.fit {
             means(&after, &state);
         }
-        refused += usize::from(fed.said == Said::Answer(Answer::OutputShort));
+        if let Said::Answer(answer) = fed.said {
+            refused[usize::from(answer.number())] += 1;
+        }
     }
-    assert!(refused > 100);
+    assert!(
+        [8, 10, 11].iter().all(|&it| refused[it] > 100),
+        "{refused:?}"
+    );
 }
 
 #[test]

@@ -247,9 +247,10 @@ pub fn cut(log: &[u8], from: usize) -> (u8, usize) {
             0
         }
         None => 0,
-        Some(Err(broken)) => {
-            assert_eq!(broken.place, from);
-            10
+        Some(Err(stopped)) => {
+            assert_eq!(stopped.place, from);
+            assert!([Error::TornLog, Error::ImpossibleLength].contains(&stopped.why));
+            stopped.why.number()
         }
     };
     let found = (found, records.place());
