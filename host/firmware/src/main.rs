@@ -1,7 +1,8 @@
 //! The program of R41 (docs/RULES.md) as firmware is written: `no_std`, no heap, all
 //! memory of fixed size. N and Z and a log come in on standard input; a line goes out
-//! for each record, then `end` or `10`; only `9` for bad limits; nothing where the input
-//! cannot be read to its end, or is longer than there is room for.
+//! for each record, then `end`, `10` for a torn log or `11` for an impossible length; only
+//! `9` for bad limits; nothing where the input cannot be read to its end, or is longer than
+//! there is room for.
 //!
 //! Along the way each record is taken apart and written again, refreshed, explained and
 //! looked up, and the log is fed page by page into a second pool, which must say and become the
@@ -155,12 +156,13 @@ fn meld_log(bytes: &mut [u8], limits: Limits, log: &[u8]) -> Result<(), Error> {
     for part in Records::new(log) {
         let part = match part {
             Ok(part) => part,
-            Err(broken) => {
-                let broken = broken.into();
-                if paged.next() != Err(broken) {
+            Err(stopped) => {
+                // Torn or an impossible length: in pages the same, however often it is asked.
+                let why = stopped.why;
+                if paged.next() != Err(why) || paged.next() != Err(why) {
                     say("DIFFERS\n");
                 }
-                return Err(broken);
+                return Err(why);
             }
         };
         // A copy of the pool as it was, to be asked after the verdict is known.
