@@ -1,5 +1,5 @@
-/* What can still go wrong around the library, each accident beside its cure: a torn append, a snapshot taken too late, a record that waits too long, a
-   record melded twice, one melded with a wrong length, and a flipped bit. docs/FIRMWARE.md tells of each. */
+/* What can still go wrong around the library, each accident beside its cure: a torn append, a length that the flash has lost, a snapshot taken too late, a
+   record that waits too long, a record melded twice, one melded with a wrong length, and a flipped bit. docs/FIRMWARE.md tells of each. */
 #include <stdio.h>
 
 #include "stage.h"
@@ -24,6 +24,13 @@ static void submit(struct card *card, const char *what, uint8_t *record, uint64_
     printf("  %s submits %s: %u %s\n", name(card), what, (unsigned)answer, answer == EMUPARASOL_COMMITTED ? "appended" : emuparasol_answer_name(answer));
 }
 
+/* What a card finds behind the last record that it has melded. */
+static void find(const struct card *card) {
+    uint8_t answer = card_tail(card);
+    printf("  %s finds behind its last record: %u %s\n", name(card), (unsigned)answer,
+           answer == EMUPARASOL_COMMITTED ? "the log's end" : emuparasol_answer_name(answer));
+}
+
 static void print_bytes(const char *what, const uint8_t *bytes, uint64_t count) {
     printf("  %s", what);
     for (uint64_t i = 0; i < count; i++) {
@@ -42,6 +49,7 @@ static void torn(bool cut_off) {
     print_bytes("left writes: ", one, length);
     stage_fail_after(10);
     submit(&left, "it, and the power fails after ten bytes", one, length);
+    find(&right);
     length = stage_put(0, 8, 300, other);
     print_bytes("right writes:", other, length);
     if (cut_off) {
@@ -66,6 +74,20 @@ static void refused_late(void) {
     stage_fail_after(length);
     submit(&left, "a record, and the flash says no when it has all of it", record, length);
     both_catch_up();
+}
+
+/* Two records on flash. Unless the log was restored from a copy, the length of the second one reads as if it were erased. */
+static void lost_length(bool restored) {
+    uint8_t one[EMUPARASOL_MOST_RECORD], other[EMUPARASOL_MOST_RECORD];
+    stage_clear();
+    stage_leave(one, stage_put(0, 7, 100, one));
+    uint64_t length = stage_put(1, 8, 300, other);
+    if (!restored)
+        other[0] = other[1] = 0xFF;
+    stage_leave(other, length);
+    both_catch_up();
+    find(&right);
+    submit(&right, "a record", one, stage_put(1, 9, 400, one));
 }
 
 /* A tenant's transaction: it raises key 7 by one. */
@@ -204,6 +226,10 @@ int main(void) {
     torn(true);
     printf("An append that the flash denies:\n");
     refused_late();
+    printf("A length that the flash has lost:\n");
+    lost_length(false);
+    printf("The same log, restored from a copy:\n");
+    lost_length(true);
     printf("The snapshot taken when the record is made:\n");
     raised_twice(true);
     printf("The snapshot taken before the first read:\n");

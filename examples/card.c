@@ -11,22 +11,15 @@ void card_start(struct card *card) {
     card->carried = 0;
 }
 
-/* The record that begins at a place of the log. Answers 0 with its bytes in part and its size; the size is 0 if the log ends there, or with a record that
-   is not all there yet. Answers 10 if no record can begin so. */
+/* The record that begins at a place of the log. Answers 0 with its bytes in part and its size; the size is 0 if the log ends there. Answers 10 if the log
+   stops within it, 11 if no record can begin so: the size is 0 then. */
 static uint8_t record_at(uint64_t place, uint8_t part[EMUPARASOL_MOST_RECORD], uint64_t *size) {
-    uint64_t got = flash_read(place, part, EMUPARASOL_MOST_RECORD);
-    *size = 0;
-    if (got < 2) /* not even a length */
-        return EMUPARASOL_COMMITTED;
-    /* Of as many bytes as the longest record has, 10 can only mean the length. */
-    uint8_t answer = emuparasol_cut(part, EMUPARASOL_MOST_RECORD, 0, size);
-    if (*size > got)
-        *size = 0;
-    return answer;
+    uint64_t got = flash_read(place, part, EMUPARASOL_MOST_RECORD); /* fewer only where the log has no more */
+    return emuparasol_cut(part, got, 0, size);
 }
 
 /* Takes a page's bytes, which go on where the card is. A page may end anywhere: what it has of a record whose end is on the next one is carried. Answers 0
-   when all is taken, 10 and 6 as card_catch_up, 7 and 8 if the pool or the carry was damaged. */
+   when all is taken, 11 and 6 as card_catch_up, 7 and 8 if the pool or the carry was damaged. */
 static uint8_t take(struct card *card, const uint8_t *page, uint64_t length) {
     for (;;) {
         uint64_t before = card->carried, taken;
@@ -46,8 +39,9 @@ static uint8_t take(struct card *card, const uint8_t *page, uint64_t length) {
     }
 }
 
-/* Melds what the log has and the card has not seen, page by page. Answers 0 when there is no more, or a record that is not all there yet; 10 if no record
-   can begin there; 6 if this log has used up its positions; 7 if the pool or the carry was damaged and was so again when all had been built anew. */
+/* Melds what the log has and the card has not seen, page by page. Answers 0 when there is no more, or a record that is not all there yet; 11 if an
+   impossible length stands there: the flash is sick, and the card can go on only with another log; 6 if this log has used up its positions; 7 if the pool
+   or the carry was damaged and was so again when all had been built anew. */
 uint8_t card_catch_up(struct card *card) {
     uint8_t page[CARD_PAGE];
     uint32_t cuts, first_cuts = 0;
@@ -93,19 +87,19 @@ uint8_t card_refresh(const struct card *card, uint8_t *record, uint64_t length) 
     return answer;
 }
 
-/* Appends a record, with the log's lock held. The last whole record ends at this place or behind it. Answers 0 if the record is in the log, and else 10, or
+/* Appends a record, with the log's lock held. The last whole record ends at this place or behind it. Answers 0 if the record is in the log, and else 11, or
    8 if the flash refused. */
 static uint8_t append(uint64_t place, const uint8_t *record, uint64_t length) {
-    uint8_t part[EMUPARASOL_MOST_RECORD] = {0};
+    uint8_t part[EMUPARASOL_MOST_RECORD], answer;
     uint64_t size;
-    do { /* what other cards have appended since; it is melded later */
-        if (record_at(place, part, &size) != EMUPARASOL_COMMITTED)
-            return EMUPARASOL_BROKEN_LOG;
-        place += size;
-    } while (size > 0);
-    /* Bytes behind the last whole record are of an append that failed: nobody is writing them, and no card has melded them. */
-    if (flash_read(place, part, 1) > 0 && !flash_cut_off(place))
+    while ((answer = record_at(place, part, &size)) == EMUPARASOL_COMMITTED && size > 0)
+        place += size; /* what other cards have appended since; it is melded later */
+    /* A torn log: what stands behind the last whole record is of an append that failed. Nobody is writing it, and no card has melded it. */
+    if (answer == EMUPARASOL_TORN_LOG && !flash_cut_off(place))
         return EMUPARASOL_OUTPUT_SHORT;
+    /* An impossible length: nothing is appended behind it, nor is it cut off, for other cards may have melded what stood there before. */
+    if (answer == EMUPARASOL_IMPOSSIBLE_LENGTH)
+        return answer;
     /* If the flash refuses, the log itself says whether the record is there after all. */
     if (flash_append(record, length) || flash_read(place, part, length) == length)
         return EMUPARASOL_COMMITTED;
@@ -113,7 +107,7 @@ static uint8_t append(uint64_t place, const uint8_t *record, uint64_t length) {
 }
 
 /* Appends a record that was made some time ago, brought up to where the card is. Answers 0 if it is in the log; its verdict comes by card_catch_up. After
-   any other answer it is not: 8 if the flash refused, 7 if the pool was damaged (card_start), 6 and 10 as from card_catch_up, 5, 1, 2 and 4 as from
+   any other answer it is not: 8 if the flash refused, 7 if the pool was damaged (card_start), 6 and 11 as from card_catch_up, 5, 1, 2 and 4 as from
    card_refresh. */
 uint8_t card_submit(struct card *card, uint8_t *record, uint64_t length) {
     uint8_t answer = card_catch_up(card);
@@ -127,9 +121,17 @@ uint8_t card_submit(struct card *card, uint8_t *record, uint64_t length) {
     return answer;
 }
 
+/* What stands in the log where the card is, for its owner. Answers 0 if that is the log's end, or a record that is still to be melded; 10 if the log is torn
+   there, by an append that goes on just now or was cut short; 11 if an impossible length stands there, and the flash is sick. */
+uint8_t card_tail(const struct card *card) {
+    uint8_t part[EMUPARASOL_MOST_RECORD];
+    uint64_t size;
+    return record_at(card->place, part, &size);
+}
+
 /* Whether the pool has as many positions as the log has records before the card's place. If not, the card has parted from the others: card_start. */
 bool card_in_step(const struct card *card) {
-    uint8_t part[EMUPARASOL_MOST_RECORD] = {0};
+    uint8_t part[EMUPARASOL_MOST_RECORD];
     uint32_t position, records = 0;
     uint64_t place = 0, size;
     while (place < card->place) {

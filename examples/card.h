@@ -41,6 +41,7 @@ uint8_t card_catch_up(struct card *card);
 uint8_t card_begin(const struct card *card, uint32_t *snapshot);
 uint8_t card_refresh(const struct card *card, uint8_t *record, uint64_t length);
 uint8_t card_submit(struct card *card, uint8_t *record, uint64_t length);
+uint8_t card_tail(const struct card *card);
 bool card_in_step(const struct card *card);
 
 #endif

@@ -30,7 +30,8 @@ static void erased_bytes(void) { stage_leave((const uint8_t[]){0xFF, 0xFF}, 2); 
 static void tail(const char *what, const uint8_t *bytes, uint64_t count) {
     uint64_t length = stage_length();
     stage_leave(bytes, count);
-    printf("behind the last record %s: %u\n", what, (unsigned)card_catch_up(&left));
+    uint8_t caught_up = card_catch_up(&left), there = card_tail(&left);
+    printf("behind the last record %s: caught up %u, tail %u %s\n", what, (unsigned)caught_up, (unsigned)there, emuparasol_answer_name(there));
     flash_lock();
     flash_cut_off(length);
     flash_unlock();
@@ -61,7 +62,7 @@ int main(void) {
     left.pool[100] ^= 4;
     submit(&right, 3, 8, 300);
     both_catch_up();
-    /* A record that is not all there yet is no error, a length that no record has is one at once. */
+    /* A record that is not all there yet is no error, the log is merely torn there; a length that no record has is one at once. */
     memset(erased, 0xFF, sizeof erased);
     stage_put(4, 9, 400, record);
     tail("a record's first byte", record, 1);

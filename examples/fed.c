@@ -2,8 +2,9 @@
    log. The log is cut into parts of the sizes that stand in the file SIZES, decimal, with white space between; a size past the log's end takes what is
    left, and what the sizes leave over is one part more. Each part is lent to emuparasol_feed (R47), and what a call has not taken of it again until
    nothing is left; an empty part is lent once. Behind the last part comes a call with an empty part that says that the log is over. A line for each
-   call: what is said, which is an answer's number, `more` or `end`, then looks, taken and carried. It stops behind 8, 7, 10 and `end`. Only `9` for bad
-   limits, N above 1,000 or fewer than eight bytes; nothing where SIZES or standard input cannot be read to its end. */
+   call: what is said, which is an answer's number, `more` or `end`, then looks, taken and carried. It stops behind 8, 7, `end`, 10 (the log is over and
+   torn) and 11 (an impossible length is in). Only `9` for bad limits, N above 1,000 or fewer than eight bytes; nothing where SIZES or standard input
+   cannot be read to its end. */
 #include <stdio.h>
 #include <stdlib.h>
 

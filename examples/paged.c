@@ -72,6 +72,7 @@ int main(void) {
     printf("pools %s\n", stage_pools());
     over("here", NULL, 0);
     over("after five bytes more", malformed, 5);
+    over("after two bytes of erased flash", (const uint8_t[]){0xFF, 0xFF}, 2);
 
     printf("a record of 841 bytes, torn after 700:\n");
     stage_clear();

@@ -1,8 +1,8 @@
 /* The reasons of a log (docs/RULES.md, R50) in C, over the library: N and Z, four bytes each, big-endian, and a log on standard input. Each record that
    is cut out of the log is explained to the pool and then melded into it; a line for each with the nine numbers of R52: position, answer, looks, key,
-   written, point, scan, lag and keys; then `end` or `10`; only `9` for bad limits, N above 65,536 or fewer than eight bytes; nothing where standard input
-   cannot be read to its end. If explaining says another answer or other looks than melding, tells something that it may not, or changes a byte of the
-   pool, that is said on standard error, and the status is 1. */
+   written, point, scan, lag and keys; then `end`, `10` where the log is torn or `11` at an impossible length; only `9` for bad limits, N above 65,536 or
+   fewer than eight bytes; nothing where standard input cannot be read to its end. If explaining says another answer or other looks than melding, tells
+   something that it may not, or changes a byte of the pool, that is said on standard error, and the status is 1. */
 #include <stdio.h>
 #include <stdlib.h>
 #include <string.h>
@@ -89,16 +89,17 @@ static bool explained(uint64_t pool_length, const uint8_t *record, uint64_t leng
 static bool explain_log(uint64_t pool_length, const uint8_t *log, uint64_t log_length) {
     uint64_t place = 0, next;
     unsigned long position = 1;
-    while (emuparasol_cut(log, log_length, place, &next) == EMUPARASOL_COMMITTED && next > place) {
+    unsigned ending;
+    while ((ending = emuparasol_cut(log, log_length, place, &next)) == EMUPARASOL_COMMITTED && next > place) {
         if (!explained(pool_length, log + place, next - place, position))
             return false;
         place = next;
         position++;
     }
-    if (place == log_length)
+    if (ending == EMUPARASOL_COMMITTED)
         printf("end\n");
-    else
-        printf("%d\n", EMUPARASOL_BROKEN_LOG);
+    else /* EMUPARASOL_TORN_LOG or EMUPARASOL_IMPOSSIBLE_LENGTH */
+        printf("%u\n", ending);
     return true;
 }
 

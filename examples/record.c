@@ -1,5 +1,5 @@
 /* A host tool that needs no pool: it writes two records of docs/RULES.md's log (R44, rows 4 and 3) back to back, checks and reads each, and cuts the
-   log that they make. It links librecord_abi.a alone. */
+   log that they make: whole, torn, and with a length that no record has. It links librecord_abi.a alone. */
 #include <stdio.h>
 
 #include "emuparasol.h"
@@ -43,8 +43,10 @@ static void walk(uint64_t bytes) {
         show(file + place, next - place);
         place = next;
     }
-    if (answer == EMUPARASOL_BROKEN_LOG)
-        printf("broken at %lu: answer %u\n", (unsigned long)place, answer);
+    if (answer == EMUPARASOL_TORN_LOG)
+        printf("torn at %lu: answer %u\n", (unsigned long)place, answer);
+    else if (answer == EMUPARASOL_IMPOSSIBLE_LENGTH)
+        printf("impossible length at %lu: answer %u\n", (unsigned long)place, answer);
     else
         printf("end at %lu\n", (unsigned long)place);
 }
@@ -55,5 +57,11 @@ int main(void) {
     walk(length);
     printf("cut off a byte before the end\n");
     walk(length - 1);
+    printf("the length of the second record lost, as erased flash reads\n");
+    file[14] = file[15] = 0xFF;
+    walk(length);
+    printf("the same, cut off right behind that length, and within it\n");
+    walk(16);
+    walk(15);
     return 0;
 }

@@ -1,6 +1,6 @@
 /* The program of R41 (docs/RULES.md) in C, over the library: N and Z, four bytes each, big-endian, and a log on standard input; a line for each
-   record with position, answer and looks, then `end` or `10`; only `9` for bad limits, N above 1,000 or fewer than eight bytes; nothing where standard
-   input cannot be read to its end. */
+   record with position, answer and looks, then `end`, `10` where the log is torn or `11` at an impossible length; only `9` for bad limits, N above
+   1,000 or fewer than eight bytes; nothing where standard input cannot be read to its end. */
 #include <stdio.h>
 #include <stdlib.h>
 
@@ -39,17 +39,18 @@ static uint8_t *read_all(uint64_t *length) {
 static void meld_log(uint64_t pool_length, const uint8_t *log, uint64_t log_length) {
     uint64_t place = 0, next;
     unsigned long position = 1;
-    while (emuparasol_cut(log, log_length, place, &next) == EMUPARASOL_COMMITTED && next > place) {
+    unsigned ending;
+    while ((ending = emuparasol_cut(log, log_length, place, &next)) == EMUPARASOL_COMMITTED && next > place) {
         uint32_t looks;
         unsigned answer = emuparasol_meld(pool, pool_length, log + place, next - place, &looks);
         printf("%lu %u %lu\n", position, answer, (unsigned long)looks);
         place = next;
         position++;
     }
-    if (place == log_length)
+    if (ending == EMUPARASOL_COMMITTED)
         printf("end\n");
-    else
-        printf("%d\n", EMUPARASOL_BROKEN_LOG);
+    else /* EMUPARASOL_TORN_LOG or EMUPARASOL_IMPOSSIBLE_LENGTH */
+        printf("%u\n", ending);
 }
 
 int main(void) {
