@@ -24,13 +24,15 @@ pub enum Answer {
     OutputShort = 8,
     /// N or Z outside its range.
     BadLimits = 9,
-    /// The log does not go on with a whole record.
-    BrokenLog = 10,
+    /// The log stops within a record: there are too few bytes.
+    TornLog = 10,
+    /// A length that no record has.
+    ImpossibleLength = 11,
 }
 
 impl Answer {
     /// Every answer, in the order of the numbers.
-    pub const ALL: [Answer; 11] = [
+    pub const ALL: [Answer; 12] = [
         Answer::Committed,
         Answer::Conflict,
         Answer::TooOld,
@@ -41,7 +43,8 @@ impl Answer {
         Answer::UnfitPool,
         Answer::OutputShort,
         Answer::BadLimits,
-        Answer::BrokenLog,
+        Answer::TornLog,
+        Answer::ImpossibleLength,
     ];
 
     /// Its number in R3.
@@ -62,7 +65,8 @@ impl Answer {
             Answer::UnfitPool => "unfit pool",
             Answer::OutputShort => "output short",
             Answer::BadLimits => "bad limits",
-            Answer::BrokenLog => "broken log",
+            Answer::TornLog => "torn log",
+            Answer::ImpossibleLength => "impossible length",
         }
     }
 }

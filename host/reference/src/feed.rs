@@ -1,18 +1,17 @@
 //! The log in parts: R47, row by row, and R48.
 
 use crate::answer::Answer;
-use crate::record::{LEAST_LENGTH, MOST_LENGTH};
+use crate::log::{can_be, length_in, LENGTH_BYTES};
+use crate::record::MOST_LENGTH;
 use crate::state::State;
 
-/// The bytes of a length.
-pub const LENGTH_BYTES: usize = 2;
 /// The bytes of a carry: those of the longest record.
 pub const CARRY_BYTES: usize = MOST_LENGTH + LENGTH_BYTES;
 
 /// What a call says.
 #[derive(Clone, Copy, Debug, PartialEq, Eq)]
 pub enum Said {
-    /// An answer of R3: of a record that was decided, or 7, 8 or 10.
+    /// An answer of R3: of a record that was decided, or 7, 8, 10 or 11.
     Answer(Answer),
     /// The record's other bytes are still to come.
     More,
@@ -31,17 +30,6 @@ pub struct Fed {
     pub taken: usize,
     /// How many bytes are carried now.
     pub carried: usize,
-}
-
-/// The length in the first two bytes, if they are there.
-pub(crate) fn length_in(bytes: &[u8]) -> Option<usize> {
-    let two = bytes.first_chunk::<LENGTH_BYTES>()?;
-    Some(usize::from(u16::from_be_bytes(*two)))
-}
-
-/// Is it from 7 to 903?
-pub(crate) fn can_be(length: usize) -> bool {
-    (LEAST_LENGTH..=MOST_LENGTH).contains(&length)
 }
 
 /// R48: may so many bytes at the carry's front be carried?
@@ -76,7 +64,7 @@ pub fn feed(
     }
     let front = &carry[..carried];
     if length_in(front).is_some_and(|length| !can_be(length)) {
-        return refusal(Answer::BrokenLog);
+        return refusal(Answer::ImpossibleLength);
     }
     let inside = [front, part].concat();
     let length = length_in(&inside);
@@ -85,7 +73,7 @@ pub fn feed(
         return Fed {
             taken: LENGTH_BYTES - carried,
             carried: LENGTH_BYTES,
-            ..refusal(Answer::BrokenLog)
+            ..refusal(Answer::ImpossibleLength)
         };
     }
     if let Some(record) = length.and_then(|length| inside.get(..length + LENGTH_BYTES)) {
@@ -120,5 +108,5 @@ pub fn feed(
             carried: 0,
         };
     }
-    refusal(Answer::BrokenLog)
+    refusal(Answer::TornLog)
 }

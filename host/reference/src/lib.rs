@@ -28,7 +28,7 @@ pub mod words;
 pub use answer::Answer;
 pub use feed::{feed, Fed, Said};
 pub use flaw::Flaw;
-pub use log::{LogReader, Step};
+pub use log::{Ending, LogReader, Step};
 pub use reason::{explain, Explained, Reason, Touch};
 pub use record::{Kind, Point, Record, Scan};
 pub use state::{Limits, State, Status, Verdict};

@@ -1,6 +1,10 @@
 //! Walking a log: R13 to R15.
 
+use crate::answer::Answer;
 use crate::record::{LEAST_LENGTH, MOST_LENGTH};
+
+/// The bytes of a length.
+pub const LENGTH_BYTES: usize = 2;
 
 /// What the log reader says at its place.
 #[derive(Clone, Copy, Debug, PartialEq, Eq)]
@@ -9,8 +13,43 @@ pub enum Step<'a> {
     Part(&'a [u8]),
     /// Exactly at the end; the place is unchanged.
     End,
-    /// Answer 10; the place is unchanged.
-    Broken,
+    /// Answer 10, too few bytes; the place is unchanged.
+    Torn,
+    /// Answer 11, two bytes that are no length of a record; the place is unchanged.
+    Impossible,
+}
+
+/// What stands behind the last record of a log.
+#[derive(Clone, Copy, Debug, PartialEq, Eq)]
+pub enum Ending {
+    /// The log's end.
+    End,
+    /// 10: too few bytes for another record.
+    Torn,
+    /// 11: a length that no record has.
+    Impossible,
+}
+
+impl Ending {
+    /// 10 or 11; none for "end", which is no answer of R3.
+    pub fn answer(self) -> Option<Answer> {
+        match self {
+            Ending::End => None,
+            Ending::Torn => Some(Answer::TornLog),
+            Ending::Impossible => Some(Answer::ImpossibleLength),
+        }
+    }
+}
+
+/// The length in the first two bytes, if they are there.
+pub(crate) fn length_in(bytes: &[u8]) -> Option<usize> {
+    let two = bytes.first_chunk::<LENGTH_BYTES>()?;
+    Some(usize::from(u16::from_be_bytes(*two)))
+}
+
+/// Is it from 7 to 903?
+pub(crate) fn can_be(length: usize) -> bool {
+    (LEAST_LENGTH..=MOST_LENGTH).contains(&length)
 }
 
 /// A lent log and a place in it.
@@ -36,23 +75,25 @@ impl<'a> LogReader<'a> {
         self.place
     }
 
-    /// The next record's part, the end, or a broken log.
+    /// The first row of R14 that applies.
     pub fn step(&mut self) -> Step<'a> {
         if self.place == self.log.len() {
             return Step::End;
         }
         let Some(rest) = self.log.get(self.place..) else {
-            return Step::Broken;
+            return Step::Torn;
         };
-        if rest.len() < 2 {
-            return Step::Broken;
+        let Some(length) = length_in(rest) else {
+            return Step::Torn;
+        };
+        if !can_be(length) {
+            return Step::Impossible;
         }
-        let length = usize::from(u16::from_be_bytes([rest[0], rest[1]]));
-        if !(LEAST_LENGTH..=MOST_LENGTH).contains(&length) || rest.len() < length + 2 {
-            return Step::Broken;
-        }
-        self.place += length + 2;
-        Step::Part(&rest[..length + 2])
+        let Some(part) = rest.get(..length + LENGTH_BYTES) else {
+            return Step::Torn;
+        };
+        self.place += part.len();
+        Step::Part(part)
     }
 }
 

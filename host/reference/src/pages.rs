@@ -42,7 +42,7 @@ pub fn cut<'a>(log: &'a [u8], sizes: &[usize]) -> Vec<&'a [u8]> {
 }
 
 /// Everything that is said in a run over these parts, from a new pool of this
-/// state, to the first call that says 8, 7, 10 or "end". Each part is lent, and
+/// state, to the first call that says 8, 7, 10, 11 or "end". Each part is lent, and
 /// then what is not yet taken of it, until nothing is left; an empty part once.
 /// Behind the last part "over" is said, with an empty one.
 pub fn calls(state: &mut State, parts: &[&[u8]]) -> Vec<Fed> {
@@ -68,12 +68,12 @@ pub fn calls(state: &mut State, parts: &[&[u8]]) -> Vec<Fed> {
     calls
 }
 
-/// Is it 8, 7, 10 or "end"?
+/// Is it 8, 7, 10, 11 or "end"?
 fn is_last(said: Said) -> bool {
     match said {
         Said::Answer(answer) => matches!(
             answer,
-            Answer::OutputShort | Answer::UnfitPool | Answer::BrokenLog
+            Answer::OutputShort | Answer::UnfitPool | Answer::TornLog | Answer::ImpossibleLength
         ),
         Said::More => false,
         Said::End => true,

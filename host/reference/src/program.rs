@@ -1,8 +1,7 @@
 //! The program of R41, and R46's for larger N: limits and a log in, a line a record out.
 
 use crate::answer::Answer;
-use crate::feed::{can_be, length_in};
-use crate::log::{LogReader, Step};
+use crate::log::{Ending, LogReader, Step};
 use crate::state::{Limits, State, Verdict};
 
 /// The largest N that the program of R41 takes.
@@ -18,10 +17,8 @@ pub struct Run<Told = Verdict> {
     pub state: State,
     /// A verdict for each record, the first at position 1.
     pub verdicts: Vec<Told>,
-    /// Did the walk reach "end"? If not, it met 10.
-    pub ended: bool,
-    /// Did it meet a length that cannot be?
-    pub impossible: bool,
+    /// What stands behind the last record.
+    pub ending: Ending,
 }
 
 /// The limits and the log of an input; bad limits for N or Z outside its range,
@@ -66,28 +63,19 @@ pub fn run_by<Told>(
     let mut state = State::new(limits);
     let mut verdicts = Vec::new();
     let mut reader = LogReader::new(log);
-    loop {
+    let ending = loop {
         match reader.step() {
             Step::Part(part) => verdicts.push(meld(&mut state, part)),
-            Step::End => {
-                return Ok(Run {
-                    state,
-                    verdicts,
-                    ended: true,
-                    impossible: false,
-                })
-            }
-            Step::Broken => {
-                let rest = &log[reader.place()..];
-                return Ok(Run {
-                    state,
-                    verdicts,
-                    ended: false,
-                    impossible: length_in(rest).is_some_and(|length| !can_be(length)),
-                });
-            }
+            Step::End => break Ending::End,
+            Step::Torn => break Ending::Torn,
+            Step::Impossible => break Ending::Impossible,
         }
-    }
+    };
+    Ok(Run {
+        state,
+        verdicts,
+        ending,
+    })
 }
 
 /// Everything the program prints for an input.
@@ -102,7 +90,7 @@ pub fn lines_up_to(most: u32, input: &[u8]) -> String {
 
 /// What the program prints where its input can be read so far and no further:
 /// the lines of the records in it, and no closing line. Limits that were read and
-/// are bad end it before that, and so does a length that cannot be.
+/// are bad end it before that, and so does an impossible length, with 11.
 pub fn lines_unread(most: u32, input: &[u8]) -> String {
     text_unread(&run_up_to(most, input), input, line)
 }
@@ -113,9 +101,8 @@ pub fn text<Told>(
     line: impl Fn(usize, &Told) -> String,
 ) -> String {
     match run {
-        Err(answer) => closing(*answer),
-        Ok(run) if run.ended => record_lines(run, line) + "end\n",
-        Ok(run) => record_lines(run, line) + &closing(Answer::BrokenLog),
+        Err(answer) => closing(Some(*answer)),
+        Ok(run) => record_lines(run, line) + &closing(run.ending.answer()),
     }
 }
 
@@ -127,7 +114,7 @@ pub fn text_unread<Told>(
 ) -> String {
     match run {
         Err(_) if input.len() < 8 => String::new(),
-        Ok(run) if !run.impossible => record_lines(run, line),
+        Ok(run) if run.ending != Ending::Impossible => record_lines(run, line),
         known => text(known, line),
     }
 }
@@ -146,7 +133,10 @@ fn line(position: usize, verdict: &Verdict) -> String {
     format!("{position} {answer} {looks}\n")
 }
 
-/// A closing line that is an answer.
-fn closing(answer: Answer) -> String {
-    format!("{}\n", answer.number())
+/// The closing line: an answer, or `end` where there is none.
+fn closing(answer: Option<Answer>) -> String {
+    match answer {
+        None => "end\n".to_string(),
+        Some(answer) => format!("{}\n", answer.number()),
+    }
 }

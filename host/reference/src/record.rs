@@ -141,7 +141,7 @@ impl Record {
         })
     }
 
-    /// The bytes of R4. Rules are not looked at, so that broken records
+    /// The bytes of R4. Rules are not looked at, so that malformed records
     /// can be made too; see `written`.
     pub fn to_bytes(&self) -> Vec<u8> {
         let mut body = vec![1];

@@ -68,10 +68,14 @@ pub fn input_words_up_to(most: u32, input: &[u8]) -> String {
         text += &format!(" -> {}\n", explained_words(explained));
         text += &format!("    {}\n", hex(part));
     }
-    if run.ended {
-        text += "end\n";
-    } else {
-        text += &format!("then 10 broken log\n    {}\n", hex(rest));
-    }
+    text += &match run.ending.answer() {
+        None => "end\n".to_string(),
+        Some(answer) => format!(
+            "then {} {}\n    {}\n",
+            answer.number(),
+            answer.name(),
+            hex(rest)
+        ),
+    };
     text
 }

@@ -7,7 +7,7 @@ use reference::program::{join, run, split};
 use reference::random::Random;
 use reference::record::with_length;
 use reference::table::{self, record};
-use reference::{feed, Answer, Fed, Limits, Point, Said, State, Verdict};
+use reference::{feed, Answer, Ending, Fed, Limits, Point, Said, State, Verdict};
 
 /// A record of 22 bytes that commits at position 1.
 fn put() -> Vec<u8> {
@@ -94,21 +94,22 @@ fn row_1_comes_before_an_unfit_pool() {
 }
 
 #[test]
-fn row_2_an_impossible_length_that_is_carried_is_10_again_and_again() {
+fn row_2_an_impossible_length_that_is_carried_is_11_again_and_again() {
     for length in [0_u16, 1, 6, 904, 905, 0x0700, u16::MAX] {
         let lent = carry(&length.to_be_bytes());
         for over in [false, true] {
             for part in [&[][..], &[0], &put()] {
-                refuses(answer(Answer::BrokenLog, 0, 2), &lent, 2, part, over);
+                let wanted = answer(Answer::ImpossibleLength, 0, 2);
+                refuses(wanted, &lent, 2, part, over);
                 let unfit = feed(None, &mut lent.clone(), 2, part, over);
-                assert_eq!(unfit, answer(Answer::BrokenLog, 0, 2));
+                assert_eq!(unfit, wanted);
             }
         }
     }
 }
 
 #[test]
-fn row_3_an_impossible_length_is_10_as_soon_as_its_bytes_are_in() {
+fn row_3_an_impossible_length_is_11_as_soon_as_its_bytes_are_in() {
     for length in [0_u16, 1, 6, 904, 905, 0x0700, u16::MAX] {
         let log = [&length.to_be_bytes()[..], &put(), &put()].concat();
         for carried in 0..2 {
@@ -116,7 +117,7 @@ fn row_3_an_impossible_length_is_10_as_soon_as_its_bytes_are_in() {
                 for over in [false, true] {
                     let lent = carry(&log[..carried]);
                     let found = call(&fresh(), &lent, carried, &log[carried..end], over);
-                    let wanted = answer(Answer::BrokenLog, 2 - carried, 2);
+                    let wanted = answer(Answer::ImpossibleLength, 2 - carried, 2);
                     assert_eq!(found, (wanted, fresh(), carry(&log[..2])));
                     let mut lent = lent;
                     let unfit = feed(None, &mut lent, carried, &log[carried..end], over);
@@ -220,10 +221,90 @@ fn row_8_a_torn_log_is_10_only_when_it_is_over() {
     for carried in 0..22 {
         for end in carried.max(1)..22 {
             let part = &log[carried..end];
-            let wanted = answer(Answer::BrokenLog, 0, carried);
+            let wanted = answer(Answer::TornLog, 0, carried);
             refuses(wanted, &carry(&log[..carried]), carried, part, true);
             let unfit = feed(None, &mut carry(&log[..carried]), carried, part, true);
             assert_eq!(unfit, wanted);
+        }
+    }
+}
+
+/// Whatever the byte is, it may begin a length that can be, or one that cannot: 10, or
+/// "more" while the log is not over.
+#[test]
+fn row_8_one_byte_is_never_11() {
+    for byte in 0..=u8::MAX {
+        for carried in 0..2 {
+            let lent = carry(&[byte][..carried]);
+            let part = &[byte][carried..];
+            refuses(
+                answer(Answer::TornLog, 0, carried),
+                &lent,
+                carried,
+                part,
+                true,
+            );
+            let found = call(&fresh(), &lent, carried, part, false);
+            let wanted = fed(Said::More, 0, 1 - carried, 1);
+            assert_eq!(found, (wanted, fresh(), carry(&[byte])));
+        }
+    }
+}
+
+/// A length at its edges with all its bytes or with too few of them, in a part that is
+/// the log's last: 11 wins over 10.
+#[test]
+fn an_impossible_length_is_11_also_where_the_log_is_over() {
+    for (length, said) in [
+        (0, Answer::ImpossibleLength),
+        (6, Answer::ImpossibleLength),
+        (7, Answer::TornLog),
+        (903, Answer::TornLog),
+        (904, Answer::ImpossibleLength),
+        (65_535, Answer::ImpossibleLength),
+    ] {
+        let bytes = with_length(&vec![1; length]);
+        let most = bytes.len() - usize::from(said == Answer::TornLog);
+        for end in [2, 3, 8, most].into_iter().filter(|&end| end <= most) {
+            let in_all = &bytes[..end];
+            for carried in 0..3 {
+                let lent = carry(&in_all[..carried]);
+                let (found, state, left) = call(&fresh(), &lent, carried, &in_all[carried..], true);
+                let wanted = match said {
+                    Answer::ImpossibleLength => answer(said, 2 - carried, 2),
+                    _ => answer(said, 0, carried),
+                };
+                assert_eq!((found, state), (wanted, fresh()), "{length}, {end} bytes");
+                let kept = if said == Answer::TornLog { carried } else { 2 };
+                assert_eq!(left, carry(&in_all[..kept]));
+            }
+        }
+    }
+}
+
+/// Behind an impossible length: any later parts, empty or whole records, over or not.
+#[test]
+fn behind_11_every_later_call_says_11_and_changes_nothing() {
+    for length in [0_u16, 6, 904, u16::MAX] {
+        let (mut state, mut carry) = (fresh(), carry(&[]));
+        let first = [&put()[..], &length.to_be_bytes(), &put()].concat();
+        let decided = feed(Some(&mut state), &mut carry, 0, &first, false);
+        assert_eq!(decided, answer(Answer::Committed, 22, 0));
+        let found = feed(Some(&mut state), &mut carry, 0, &first[22..], false);
+        assert_eq!(found, answer(Answer::ImpossibleLength, 2, 2));
+        let (kept, left) = (state.clone(), carry.clone());
+        let later: [(&[u8], bool); 6] = [
+            (&first[24..], false),
+            (&[], false),
+            (&[0, 7], false),
+            (&first[24..], true),
+            (&[], true),
+            (&first[24..], false),
+        ];
+        for (part, over) in later {
+            let found = feed(Some(&mut state), &mut carry, 2, part, over);
+            assert_eq!(found, answer(Answer::ImpossibleLength, 0, 2));
+            assert_eq!((&state, &carry), (&kept, &left));
         }
     }
 }
@@ -270,8 +351,18 @@ fn each_such_carry_is_left_by_a_call() {
     }
 }
 
-/// What was decided, and how the run ended: true for "end".
-fn decided(calls: &[Fed]) -> (Vec<Verdict>, bool) {
+/// How the run ended with this call, if it did.
+fn ending(fed: &Fed) -> Option<Ending> {
+    match fed.said {
+        Said::End => Some(Ending::End),
+        Said::Answer(Answer::TornLog) => Some(Ending::Torn),
+        Said::Answer(Answer::ImpossibleLength) => Some(Ending::Impossible),
+        _ => None,
+    }
+}
+
+/// What was decided, and how the run ended.
+fn decided(calls: &[Fed]) -> (Vec<Verdict>, Ending) {
     let verdict = |fed: &Fed| match fed.said {
         Said::Answer(answer) if answer < Answer::UnfitPool => Some(Verdict {
             answer,
@@ -279,12 +370,8 @@ fn decided(calls: &[Fed]) -> (Vec<Verdict>, bool) {
         }),
         _ => None,
     };
-    let last = calls.last().expect("there is a call").said;
-    assert!(matches!(last, Said::End | Said::Answer(Answer::BrokenLog)));
-    (
-        calls.iter().filter_map(verdict).collect(),
-        last == Said::End,
-    )
+    let last = calls.last().and_then(ending).expect("the run ended");
+    (calls.iter().filter_map(verdict).collect(), last)
 }
 
 /// Fed in these parts, the log gives what it gives walked at once.
@@ -293,11 +380,12 @@ fn same_as_whole(input: &[u8], sizes: &[usize]) {
     let whole = run(input).unwrap();
     let mut state = State::new(limits);
     let found = decided(&calls(&mut state, &cut(log, sizes)));
-    assert_eq!(found, (whole.verdicts, whole.ended), "{sizes:?}");
+    assert_eq!(found, (whole.verdicts, whole.ending), "{sizes:?}");
     assert_eq!(state, whole.state);
 }
 
-/// Logs that end well, are torn, or break at an impossible length.
+/// Logs that end well, are torn, or have an impossible length in them, whose bytes are
+/// there or not.
 fn logs() -> Vec<Vec<u8>> {
     let rows = table::input();
     let torn = rows[..rows.len() - 3].to_vec();
@@ -308,7 +396,18 @@ fn logs() -> Vec<Vec<u8>> {
         4,
         &[&put()[..], &full, &with_length(&[9; 7]), &full[..904]].concat(),
     );
-    vec![rows, torn, impossible, longest, join(3, 4, &[])]
+    let mut logs = vec![rows, torn, impossible, longest, join(3, 4, &[])];
+    for end in [
+        &[0xFF][..],
+        &[0, 6],
+        &[0, 7],
+        &[3, 0x87, 1],
+        &[3, 0x88, 1],
+        &[0xFF, 0xFF, 1, 1, 1],
+    ] {
+        logs.push(join(3, 4, &[&put()[..], end].concat()));
+    }
+    logs
 }
 
 #[test]
@@ -360,13 +459,14 @@ fn fed_fronts(input: &[u8], random: &mut Random) {
         let place = done.concat().len();
         assert_eq!(place + carried, taken);
         assert_eq!(carry[..carried], log[place..taken]);
-        if matches!(fed.said, Said::End | Said::Answer(Answer::BrokenLog)) {
+        if let Some(ending) = ending(&fed) {
+            assert!(over || ending == Ending::Impossible);
             break;
         }
         assert!(fed.taken > 0 || front == 0);
     }
     let whole = run(input).unwrap();
-    assert_eq!(decided(&calls), (whole.verdicts, whole.ended));
+    assert_eq!(decided(&calls), (whole.verdicts, whole.ending));
     assert_eq!(state, whole.state);
 }
 
@@ -396,8 +496,13 @@ fn the_page_form_prints_a_line_a_call() {
     assert_eq!(torn, "0 0 22 0\nmore 0 8 8\n10 0 0 8\n");
     assert_eq!(
         lines(&join(3, 4, &[0, 6, 1]), &[1, 1]),
-        "more 0 1 1\n10 0 1 2\n"
+        "more 0 1 1\n11 0 1 2\n"
     );
+    assert_eq!(
+        lines(&join(3, 4, &[0xFF]), &[1, 0]),
+        "more 0 1 1\nmore 0 0 1\n10 0 0 1\n"
+    );
+    assert_eq!(lines(&join(3, 4, &[0xFF; 5]), &[4]), "11 0 2 2\n");
     assert_eq!(lines(&join(0, 4, &[]), &[1]), "9\n");
     assert_eq!(lines(&join(1_001, 4, &[]), &[1]), "9\n");
     assert_eq!(lines(&input[..7], &[]), "9\n");

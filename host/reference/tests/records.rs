@@ -1,11 +1,10 @@
-//! The record, the lists and the log: round trips, refusals, cuts.
+//! The record and the lists: round trips, refusals.
 
 use reference::lists::{read, write, Lists, ListsOut};
-use reference::log::parts;
 use reference::random::Random;
 use reference::record::with_length;
 use reference::table::{record, scanning};
-use reference::{Answer, Flaw, Kind, LogReader, Point, Record, Scan, Step};
+use reference::{Answer, Flaw, Kind, Point, Record, Scan};
 
 /// A well-formed record with any numbers of points and scans.
 fn random_record(random: &mut Random) -> Record {
@@ -210,48 +209,5 @@ fn the_reader_refuses_with_4_before_8() {
         assert_eq!(read(&bytes, &mut out), (Answer::OutputShort, 0, 0, 0));
         let refused = read(&bytes[..bytes.len() - 1], &mut out);
         assert_eq!(refused, (Answer::Malformed, 0, 0, 0));
-    }
-}
-
-#[test]
-fn the_log_reader_at_odd_places() {
-    let log = record(0, &[]).to_bytes();
-    for (place, step) in [(9, Step::End), (8, Step::Broken), (10, Step::Broken)] {
-        let mut reader = LogReader::at(&log, place);
-        assert_eq!(reader.step(), step);
-        assert_eq!(reader.place(), place);
-    }
-}
-
-#[test]
-fn the_log_reader_takes_lengths_7_to_903() {
-    for (length, fits) in [(0, false), (6, false), (7, true), (903, true), (904, false)] {
-        let part = with_length(&vec![0; length]);
-        let step = if fits {
-            Step::Part(&part)
-        } else {
-            Step::Broken
-        };
-        assert_eq!(LogReader::new(&part).step(), step);
-        let torn = &part[..part.len() - 1];
-        assert_eq!(LogReader::new(torn).step(), Step::Broken);
-    }
-}
-
-#[test]
-fn a_cut_log_hands_out_the_records_before_the_cut() {
-    let mut random = Random::new(4);
-    let records: Vec<Vec<u8>> = (0..4)
-        .map(|_| random_record(&mut random).to_bytes())
-        .collect();
-    let log = records.concat();
-    let ends: Vec<usize> = (0..=4)
-        .map(|count| records[..count].concat().len())
-        .collect();
-    for cut in 0..=log.len() {
-        let whole = ends[1..].iter().filter(|&&end| end <= cut).count();
-        let (found, rest) = parts(&log[..cut]);
-        assert_eq!(found, records[..whole]);
-        assert_eq!(rest.is_empty(), ends.contains(&cut));
     }
 }

@@ -28,9 +28,9 @@ fn refusals_leave_the_output_untouched() {
     let mut conflicting = state();
     conflicting.meld(&record(3, &[Point::put(10, 2)]).to_bytes());
     let old = |s| record(s, &[Point::read(10)]).to_bytes();
-    let broken = &old(3)[..5];
+    let malformed = &old(3)[..5];
     let rows = [
-        (broken, Answer::Malformed),
+        (malformed, Answer::Malformed),
         (&old(5)[..], Answer::Ahead),
         (&old(1)[..], Answer::TooOld),
         (&old(3)[..], Answer::Conflict),
@@ -72,13 +72,16 @@ fn the_last_position_does_not_stop_a_refresh() {
 #[test]
 fn in_force_is_empty_when_the_log_rule_finds_nothing() {
     let original = record(1, &[]).to_bytes();
-    let torn = &original[..8];
-    assert!(in_force(Answer::Committed, &original, torn).is_empty());
-    assert!(in_force(Answer::Committed, &original, &[]).is_empty());
-    assert_eq!(in_force(Answer::Ahead, &original, torn), original);
-    for answer in Answer::ALL {
-        let part = in_force(answer, &original, torn);
-        assert_eq!(part.is_empty(), answer != Answer::Ahead);
-        assert_eq!(part.as_ptr(), original.as_ptr());
+    let (torn, one, impossible) = (&original[..8], &original[..1], [0, 6, 1, 0, 0, 0, 0, 0]);
+    for refreshed in [torn, one, &[], &impossible, &[0, 6], &[3, 0x88]] {
+        for answer in Answer::ALL {
+            let part = in_force(answer, &original, refreshed);
+            let wanted = match answer {
+                Answer::Ahead => &original[..],
+                _ => &[],
+            };
+            assert_eq!(part, wanted);
+            assert_eq!(part.as_ptr(), original.as_ptr());
+        }
     }
 }

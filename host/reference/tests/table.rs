@@ -2,12 +2,12 @@
 
 use reference::program::{join, lines, lines_unread, lines_up_to, run, FULL_N, MOST_N};
 use reference::table::{self, log, record, scanning};
-use reference::{Answer, Limits, Point, Record, State};
+use reference::{Answer, Ending, Limits, Point, Record, State};
 
 /// The answers and looks for a log.
 fn verdicts(n: u32, z: u32, records: &[Record]) -> Vec<(u8, u32)> {
     let run = run(&join(n, z, &log(records))).unwrap();
-    assert!(run.ended);
+    assert_eq!(run.ending, Ending::End);
     let pairs = run.verdicts.iter();
     pairs
         .map(|verdict| (verdict.answer.number(), verdict.looks))
@@ -145,6 +145,9 @@ fn an_input_that_cannot_be_read_on_has_no_closing_line() {
     assert_eq!(lines_unread(MOST_N, &whole[..7]), "");
     assert_eq!(lines_unread(MOST_N, &join(0, 4, &[])), "9\n");
     assert_eq!(lines_unread(MOST_N, &join(3, 4, &[0])), "");
-    assert_eq!(lines_unread(MOST_N, &join(3, 4, &[0, 6])), "10\n");
+    assert_eq!(lines_unread(MOST_N, &join(3, 4, &[0xFF])), "");
+    assert_eq!(lines_unread(MOST_N, &join(3, 4, &[0, 6])), "11\n");
     assert_eq!(lines_unread(MOST_N, &join(3, 4, &[0, 7])), "");
+    assert_eq!(lines_unread(MOST_N, &join(3, 4, &[3, 0x87])), "");
+    assert_eq!(lines_unread(MOST_N, &join(3, 4, &[3, 0x88])), "11\n");
 }
