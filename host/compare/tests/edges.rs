@@ -16,8 +16,6 @@ fn record_edges(state: &State, part: &[u8], tally: &mut Tally) {
     let mut add = |name, met: bool| *tally.entry(name).or_default() += usize::from(met);
     add("65 points", part[7] == 65);
     add("9 scans", part[8] == 9);
-    add("length 7", part.len() == 9);
-    add("length 903", part.len() == 905);
     let Ok(record) = Record::parse(part) else {
         return;
     };
@@ -72,6 +70,61 @@ fn room_edges(before: &State, after: &State, answer: Answer, tally: &mut Tally) 
     add("N keys kept", after.kept().len() == limits.n() as usize);
 }
 
+/// Counts the edges of R14 that the end of a log meets: these records, and this behind
+/// the last.
+fn ending_edges(records: &[&[u8]], rest: &[u8], tally: &mut Tally) {
+    let mut add = |name, met: bool| *tally.entry(name).or_default() += usize::from(met);
+    add("length 7, all there", records.iter().any(|r| r.len() == 9));
+    add(
+        "length 903, all there",
+        records.iter().any(|r| r.len() == 905),
+    );
+    add("one byte left", rest.len() == 1);
+    add(
+        "one byte left that no length begins with",
+        rest.len() == 1 && rest[0] > 3,
+    );
+    let length = rest.first_chunk::<2>().map(|two| u16::from_be_bytes(*two));
+    let behind = rest.len().saturating_sub(2);
+    let torn = length.is_some_and(|length| (7..=903).contains(&length));
+    let impossible = length.is_some_and(|length| !(7..=903).contains(&length));
+    add("two bytes left, torn", torn && behind == 0);
+    add("two bytes left, impossible", impossible && behind == 0);
+    add("three bytes left, torn", torn && behind == 1);
+    add("three bytes left, impossible", impossible && behind == 1);
+    for (wanted, all, few) in [
+        (0, "length 0, all there", None),
+        (6, "length 6, all there", Some("length 6, too few")),
+        (904, "length 904, all there", Some("length 904, too few")),
+        (
+            u16::MAX,
+            "length 65,535, all there",
+            Some("length 65,535, too few"),
+        ),
+    ] {
+        let met = length == Some(wanted);
+        let whole = behind >= usize::from(wanted);
+        add(all, met && whole);
+        if let Some(few) = few {
+            add(few, met && !whole);
+        }
+    }
+    add("length 7, too few", length == Some(7));
+    add("length 903, too few", length == Some(903));
+    add(
+        "another impossible length",
+        impossible && !matches!(length, Some(0 | 6 | 904 | u16::MAX)),
+    );
+    add(
+        "an impossible length behind records",
+        impossible && !records.is_empty(),
+    );
+    add(
+        "an impossible length first of all",
+        impossible && records.is_empty(),
+    );
+}
+
 /// Counts the edges of one log.
 fn log_edges(limits: Limits, log: &[u8], tally: &mut Tally) {
     let (found, rest) = parts(log);
@@ -82,15 +135,8 @@ fn log_edges(limits: Limits, log: &[u8], tally: &mut Tally) {
         record_edges(&before, part, tally);
         room_edges(&before, &state, verdict.answer, tally);
     }
+    ending_edges(&found, rest, tally);
     let mut add = |name, met: bool| *tally.entry(name).or_default() += usize::from(met);
-    let length = rest.first_chunk::<2>().map(|two| u16::from_be_bytes(*two));
-    add("one byte left", rest.len() == 1);
-    add("length 6", length == Some(6));
-    add("length 904", length == Some(904));
-    add(
-        "torn record",
-        length.is_some_and(|length| (7..=903).contains(&length)),
-    );
     add("empty log", log.is_empty());
     add("N = 1", limits.n() == 1);
     add("N = 2", limits.n() == 2);
@@ -107,7 +153,7 @@ fn every_edge_is_met() {
         let input = generate::input(seed);
         *tally.entry("empty input").or_default() += usize::from(input.is_empty());
         match split(&input) {
-            Ok((limits, log)) if log.len() < 30_000 => log_edges(limits, log, &mut tally),
+            Ok((limits, log)) if parts(log).0.len() < 2_000 => log_edges(limits, log, &mut tally),
             Ok((limits, _)) => {
                 *tally.entry("Z = 4,096").or_default() += usize::from(limits.z() == 4_096);
             }
@@ -163,8 +209,19 @@ fn cut_edges(log: &[u8], sizes: &[usize], tally: &mut Tally) {
     add("an impossible length behind a record of its part", late);
     let first = impossible && start > 0 && cut_at(start) > 0;
     add("an impossible length at a part's start", first);
+    let whole = length.is_some_and(|length| tail.len() >= usize::from(length) + 2);
+    add("an impossible length, all there", impossible && whole);
+    add("an impossible length, too few", impossible && !whole);
+    let last = impossible && cut_at(start + 2) > 0;
+    add("an impossible length that ends a part", last);
+    add(
+        "an impossible length in parts that go on",
+        last && ends[start + 3..].iter().any(|&end| end > 0),
+    );
     add("a torn end", !tail.is_empty() && !impossible);
     add("a torn end of one byte", tail.len() == 1);
+    add("a torn end of two bytes", !impossible && tail.len() == 2);
+    add("a torn end of three bytes", !impossible && tail.len() == 3);
     add("empty parts behind the log", cut_at(log.len()) > 1);
     add("empty parts before the log", cut_at(0) > 1);
     let sum: usize = sizes.iter().sum();
@@ -182,6 +239,23 @@ fn cut_edges(log: &[u8], sizes: &[usize], tally: &mut Tally) {
         "every byte alone",
         single && sizes.iter().all(|&one| one == 1),
     );
+}
+
+/// The ends of R14, in few seeds already.
+#[test]
+fn every_ending_is_met_in_parts_by_150_seeds() {
+    let mut tally = Tally::new();
+    for seed in 0..150 {
+        let input = generate::paged_input(seed);
+        if let Ok((_, log)) = split(&input) {
+            let (records, rest) = parts(log);
+            ending_edges(&records, rest, &mut tally);
+        }
+    }
+    println!("{tally:#?}");
+    for (name, count) in tally {
+        assert!(count > 0, "{name} is not met");
+    }
 }
 
 #[test]

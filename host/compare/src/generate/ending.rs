@@ -3,7 +3,6 @@
 use reference::log::parts;
 use reference::program::join;
 use reference::random::Random;
-use reference::record::with_length;
 
 use super::profile::Profile;
 
@@ -28,20 +27,48 @@ pub fn bad_start(random: &mut Random) -> Vec<u8> {
     }
 }
 
+/// Ends at the edges of R14: a length, and how many bytes stand behind it. Lengths that
+/// can be and cannot, with two bytes left and with three, one byte too few, and all there.
+const EDGES: [(u16, usize); 14] = [
+    (0, 0),
+    (6, 0),
+    (6, 5),
+    (6, 6),
+    (7, 0),
+    (7, 1),
+    (7, 6),
+    (903, 902),
+    (903, 903),
+    (904, 1),
+    (904, 903),
+    (904, 904),
+    (u16::MAX, 20),
+    (u16::MAX, 65_535),
+];
+
+/// How many ends `edge` has: those, and a single byte that no length begins with.
+pub const EDGE_COUNT: usize = EDGES.len() + 1;
+
+/// The end of this number, below `EDGE_COUNT`.
+pub fn edge(number: usize) -> Vec<u8> {
+    match EDGES.get(number) {
+        Some(&(length, behind)) => [&length.to_be_bytes()[..], &vec![1; behind]].concat(),
+        None => vec![0xFF],
+    }
+}
+
 /// The log, its end spoiled in the profile's share of the cases.
 pub fn perhaps_spoiled(log: Vec<u8>, profile: &Profile, random: &mut Random) -> Vec<u8> {
     if !random.percent(profile.spoiled) {
         return log;
     }
     match random.below(8) {
+        0..=4 | 6 if profile.edges => [log, edge(random.below(EDGE_COUNT))].concat(),
         0..=2 => log[..random.below(log.len() + 1)].to_vec(),
         3 => cut_near_an_end(&log, random),
         4 => with_length_field(&log, random),
         5 => [log, vec![random.bits() as u8]].concat(),
-        6 => {
-            let length = random.pick(&[0, 1, 6, 904, 905, 2_000]);
-            [log, with_length(&vec![1; length])].concat()
-        }
+        6 => [log, edge(random.below(EDGE_COUNT))].concat(),
         _ => [
             log,
             random.bits().to_be_bytes()[..1 + random.below(8)].to_vec(),

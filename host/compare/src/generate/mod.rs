@@ -13,6 +13,7 @@ pub mod profile;
 pub mod record;
 pub mod sizes;
 
+use reference::log::parts;
 use reference::program::{join, split, FULL_N};
 use reference::random::Random;
 use reference::record::{with_length, MOST_LENGTH, MOST_POINTS, MOST_SCANS};
@@ -37,12 +38,32 @@ pub fn input(seed: u64) -> Vec<u8> {
 }
 
 /// The input of a seed for the page form. One seed in ten has the longest records
-/// there are.
+/// there are, and one in ten the edges of R14 at its end, one after the other.
 pub fn paged_input(seed: u64) -> Vec<u8> {
     match seed % 10 {
+        4 => at_an_edge(seed),
         9 => longest_records(seed),
         _ => input(seed),
     }
+}
+
+/// The first records of a seed's log, as many as leave it short, and behind them the
+/// end that it is the seed's turn to have.
+fn at_an_edge(seed: u64) -> Vec<u8> {
+    let input = input(seed);
+    let (limits, log) = match split(&input) {
+        Ok((limits, log)) => ((limits.n(), limits.z()), log),
+        Err(_) => ((3, 4), &[][..]),
+    };
+    let mut front = Vec::new();
+    for record in parts(log).0 {
+        if front.len() + record.len() > sizes::SHORT / 2 {
+            break;
+        }
+        front.extend(record);
+    }
+    front.extend(ending::edge((seed / 10) as usize % ending::EDGE_COUNT));
+    join(limits.0, limits.1, &front)
 }
 
 /// The input of a seed for reasons (R50). One seed in five has records that are beaten
@@ -91,7 +112,10 @@ fn longest_records(seed: u64) -> Vec<u8> {
         };
         log.extend(bytes);
     }
-    let profile = Profile::torn(&mut random);
+    let profile = Profile {
+        edges: false,
+        ..Profile::spoiled_end(&mut random)
+    };
     if random.percent(50) {
         log = ending::perhaps_spoiled(log, &profile, &mut random);
     }

@@ -33,6 +33,8 @@ pub struct Profile {
     pub full: usize,
     /// Logs with a spoiled end.
     pub spoiled: usize,
+    /// Is a spoiled end at an edge of R14, three times in four?
+    pub edges: bool,
 }
 
 impl Profile {
@@ -44,8 +46,8 @@ impl Profile {
             52..=66 => Profile::tombstones(random),
             67..=75 => Profile::wide(random),
             76..=81 => Profile::fullest(random),
-            82..=89 => Profile::broken(random),
-            90..=93 => Profile::torn(random),
+            82..=89 => Profile::malformed(random),
+            90..=93 => Profile::spoiled_end(random),
             94..=97 => Profile::sleepy(random),
             _ => Profile::longest_zone(random),
         }
@@ -69,6 +71,7 @@ impl Profile {
             idle: 3,
             full: 0,
             spoiled: 8,
+            edges: false,
         }
     }
 
@@ -162,7 +165,7 @@ impl Profile {
     }
 
     /// Every other record spoiled.
-    fn broken(random: &mut Random) -> Profile {
+    fn malformed(random: &mut Random) -> Profile {
         Profile {
             malformed: 50,
             scans: 45,
@@ -171,10 +174,11 @@ impl Profile {
         }
     }
 
-    /// A log whose end is always spoiled.
-    pub fn torn(random: &mut Random) -> Profile {
+    /// A log whose end is always spoiled: torn, or an impossible length.
+    pub fn spoiled_end(random: &mut Random) -> Profile {
         Profile {
             spoiled: 100,
+            edges: true,
             records: 1 + random.below(12),
             ..Profile::small(random)
         }
