@@ -22,7 +22,7 @@ use reference::pages::{self, sizes_text};
 use reference::program;
 use reference::reason;
 use reference::words::{hex, input_words_up_to};
-use reference::{Answer, Reason, Said, State, Touch};
+use reference::{Answer, Ending, Reason, Said, State, Touch};
 
 fn main() -> ExitCode {
     let arguments: Vec<String> = std::env::args().skip(1).collect();
@@ -139,14 +139,13 @@ fn count(setting: Setting, trial: &Trial, tally: &mut Tally) {
             if setting.reasons {
                 reasons(&trial.input).into_iter().for_each(&mut add);
             }
-            add(if setting.unread {
-                "logs unread"
-            } else if run.ended {
-                "logs end"
-            } else {
-                "logs 10 broken log"
-            }
-            .to_string());
+            // What is not read on ends with 11 or with nothing.
+            add(match (run.ending, setting.unread) {
+                (Ending::Impossible, _) => format!("logs {}", named(Answer::ImpossibleLength)),
+                (_, true) => "logs unread".to_string(),
+                (Ending::Torn, false) => format!("logs {}", named(Answer::TornLog)),
+                (Ending::End, false) => "logs end".to_string(),
+            });
         }
         (Ok(run), Some(sizes)) => {
             let mut state = State::new(run.state.limits());

@@ -6,7 +6,7 @@ use reference::pages::{calls, cut};
 use reference::program::{join, run, split};
 use reference::random::Random;
 use reference::refresh::{in_force, refresh};
-use reference::{Answer, Fed, Limits, Point, Record, Said, Scan, State, Verdict};
+use reference::{Answer, Ending, Fed, Limits, Point, Record, Said, Scan, State, Verdict};
 
 /// The limits and the records of a seed's input, if its limits are good and it
 /// is not too long to keep every state of it.
@@ -214,7 +214,7 @@ fn a_cut_log_keeps_its_verdicts() {
         let (Ok((limits, log)), Ok(whole)) = (split(&input), run(&input)) else {
             continue;
         };
-        if !whole.ended || log.len() > 3_000 {
+        if whole.ending != Ending::End || log.len() > 3_000 {
             continue;
         }
         let mut end = 0;
@@ -227,7 +227,11 @@ fn a_cut_log_keeps_its_verdicts() {
             let found = run(&join(limits.n(), limits.z(), &log[..cut])).unwrap();
             let count = ends[1..].iter().filter(|&&end| end <= cut).count();
             assert_eq!(found.verdicts, whole.verdicts[..count], "seed {seed}");
-            assert_eq!(found.ended, ends.contains(&cut), "seed {seed}");
+            let wanted = match ends.contains(&cut) {
+                true => Ending::End,
+                false => Ending::Torn,
+            };
+            assert_eq!(found.ending, wanted, "seed {seed}");
         }
     }
 }
@@ -242,8 +246,9 @@ fn the_same_seed_gives_the_same_log() {
 /// Each answer that a log can give is a useful share of what the logs give.
 #[test]
 fn every_answer_is_frequent() {
-    let mut answers = [0; 11];
-    let mut ends = [0; 2];
+    let mut answers = [0; Answer::ALL.len()];
+    // "end", 10 and 11.
+    let mut ends = [0; 3];
     let mut refused = 0;
     for seed in 0..2_000 {
         match run(&generate::input(seed)) {
@@ -253,7 +258,11 @@ fn every_answer_is_frequent() {
                 for verdict in &run.verdicts {
                     answers[usize::from(verdict.answer.number())] += 1;
                 }
-                ends[usize::from(run.ended)] += 1;
+                ends[match run.ending {
+                    Ending::End => 0,
+                    Ending::Torn => 1,
+                    Ending::Impossible => 2,
+                }] += 1;
             }
         }
     }
@@ -265,7 +274,7 @@ fn every_answer_is_frequent() {
             "answer {number}: {count} of {records}"
         );
     }
-    assert!(refused > 30 && ends[0] > 100 && ends[1] > 1_000);
+    assert!(refused > 30 && ends[0] > 1_000 && ends[1] > 50 && ends[2] > 50);
 }
 
 /// The verdict of a call that decided a record.
@@ -293,10 +302,7 @@ fn a_log_in_parts_is_the_log() {
             let fed = calls(&mut state, &cut(log, &sizes));
             let verdicts: Vec<Verdict> = fed.iter().filter_map(verdict_of).collect();
             assert_eq!(verdicts, whole.verdicts, "seed {seed}, sizes {sizes:?}");
-            let ending = match whole.ended {
-                true => Said::End,
-                false => Said::Answer(Answer::BrokenLog),
-            };
+            let ending = whole.ending.answer().map_or(Said::End, Said::Answer);
             assert_eq!(fed.last().map(|fed| fed.said), Some(ending));
             assert_eq!(state, whole.state);
         }

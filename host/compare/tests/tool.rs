@@ -26,6 +26,30 @@ fn agreement_has_status_0() {
 }
 
 #[test]
+fn torn_logs_and_impossible_lengths_are_counted_each() {
+    let output = compare(None, &[PROGRAM, ["--seeds", "0..60"]].concat());
+    let text = String::from_utf8(output.stdout).unwrap();
+    for what in [
+        " logs 10 torn log\n",
+        " logs 11 impossible length\n",
+        " logs end\n",
+    ] {
+        assert!(text.contains(what), "{text}");
+    }
+}
+
+#[test]
+fn a_difference_between_10_and_11_shows_the_two_bytes() {
+    let arguments = [PROGRAM, ["--seeds", "0..60"], ["--jobs", "1"]].concat();
+    let output = compare(Some("ImpossibleShortTorn"), &arguments);
+    assert_eq!(output.status.code(), Some(1));
+    let text = String::from_utf8(output.stdout).unwrap();
+    assert!(text.contains("then 11 impossible length\n"), "{text}");
+    assert!(text.contains("line 1 is to be `11`"), "{text}");
+    assert!(text.contains("the program has  `10`"), "{text}");
+}
+
+#[test]
 fn a_difference_has_status_1_and_shows_a_small_log() {
     let arguments = [PROGRAM, ["--seeds", "0..60"], ["--jobs", "1"]].concat();
     let output = compare(Some("AheadLate"), &arguments);

@@ -23,9 +23,16 @@ mistakes! {
         ImpossibleNotTaken: "the bytes of an impossible length are not taken",
         ImpossibleTakesAll: "a part is taken whole with an impossible length",
         ImpossibleForgotten: "an impossible length is not left in the carry",
+        ImpossibleTorn: "10 is said of an impossible length",
+        ImpossibleShortTorn: "10 is said of an impossible length whose bytes are not all in",
+        ImpossibleThenTorn: "11 is said once of an impossible length, and 10 to later parts",
+        ImpossibleOverTorn: "10 is said of an impossible length when the log is over",
+        FirstByteJudged: "11 is said of a first byte that no length begins with",
         TornEarly: "10 is said of a record that goes on in the next part",
         TornForgotten: "10 at the end of a torn log leaves nothing carried",
         TornIsEnd: "end is said though bytes are carried",
+        TornImpossible: "11 is said of a torn log when it is over",
+        OneByteImpossible: "11 is said of a single byte when the log is over",
         OverIgnored: "a torn log that is over asks for more",
         OverFirst: "over is looked at before the record",
         EmptyIsOver: "an empty part says that the log is over",
@@ -49,13 +56,15 @@ mistakes! {
 
 impl FeedMistake {
     /// Those that the page form's lines do not show: they need a carry or a count
-    /// that no call has left, an unfit pool, "over" with bytes, or a look at the
-    /// carry's bytes.
+    /// that no call has left, an unfit pool, "over" with bytes, a call behind the one
+    /// that says 11, or a look at the carry's bytes.
     pub const IN_CALLS_ONLY: &'static [FeedMistake] = &[
         FeedMistake::CountTrusted,
         FeedMistake::CarrySizeTrusted,
         FeedMistake::ImpossibleNotCarried,
         FeedMistake::ImpossibleForgotten,
+        FeedMistake::ImpossibleThenTorn,
+        FeedMistake::ImpossibleOverTorn,
         FeedMistake::OverFirst,
         FeedMistake::UnfitFirst,
         FeedMistake::UnfitTakes,
@@ -92,7 +101,7 @@ pub fn lines(mistake: Option<FeedMistake>, input: &[u8], sizes: &[usize]) -> Str
     text + &line(&feeder.feed(carried, &[], true))
 }
 
-/// Does it say 7, 8 or 10?
+/// Does it say 7, 8, 10 or 11?
 fn refuses(fed: &Fed) -> bool {
     matches!(fed.said, Said::Answer(answer) if answer.number() >= 7)
 }

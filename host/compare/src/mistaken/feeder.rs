@@ -71,7 +71,9 @@ impl Feeder {
             return self.rest(carried, part, over);
         }
         match self.length(carried, part) {
-            Some(length) if !(7..=903).contains(&length) => self.impossible(carried, part, over),
+            Some(length) if !(7..=903).contains(&length) => {
+                self.impossible(length, carried, part, over)
+            }
             Some(length) => {
                 let missing = (length + 2).saturating_sub(carried);
                 let late = usize::from(self.has(FeedMistake::LastByteLate));
@@ -85,8 +87,25 @@ impl Feeder {
                     self.decided(length + 2, carried, part)
                 }
             }
-            None => self.rest(carried, part, over),
+            None => match (carried, part) {
+                (1, []) if self.begins_none(self.carry[0]) => {
+                    refused(Answer::ImpossibleLength, carried)
+                }
+                (0, [first]) if self.begins_none(*first) => {
+                    self.put(0, part);
+                    Fed {
+                        taken: 1,
+                        ..refused(Answer::ImpossibleLength, 1)
+                    }
+                }
+                _ => self.rest(carried, part, over),
+            },
         }
+    }
+
+    /// Is this first byte taken for one that no length begins with?
+    fn begins_none(&self, first: u8) -> bool {
+        self.has(FeedMistake::FirstByteJudged) && first > 3
     }
 
     /// May this carry and count be?
@@ -126,13 +145,24 @@ impl Feeder {
     }
 
     /// The length that is in cannot be.
-    fn impossible(&mut self, carried: usize, part: &[u8], over: bool) -> Fed {
+    fn impossible(&mut self, length: usize, carried: usize, part: &[u8], over: bool) -> Fed {
         let new = 2_usize.saturating_sub(carried).min(part.len());
         if self.has(FeedMistake::ImpossibleLate) && !over {
             return self.rest(carried, part, over);
         }
+        let torn = match self.mistake {
+            Some(FeedMistake::ImpossibleTorn) => true,
+            Some(FeedMistake::ImpossibleShortTorn) => carried + part.len() < length + 2,
+            Some(FeedMistake::ImpossibleThenTorn) => carried == 2,
+            Some(FeedMistake::ImpossibleOverTorn) => over,
+            _ => false,
+        };
+        let answer = match torn {
+            true => Answer::TornLog,
+            false => Answer::ImpossibleLength,
+        };
         if self.has(FeedMistake::ImpossibleNotTaken) {
-            return refused(Answer::BrokenLog, carried);
+            return refused(answer, carried);
         }
         if !self.has(FeedMistake::ImpossibleForgotten) {
             self.put(carried, &part[..new]);
@@ -142,7 +172,7 @@ impl Feeder {
                 true => part.len(),
                 false => new,
             },
-            ..refused(Answer::BrokenLog, carried + new)
+            ..refused(answer, carried + new)
         }
     }
 
@@ -236,14 +266,12 @@ impl Feeder {
                     said: Said::End,
                     ..more(0, carried)
                 }
-            } else if self.has(FeedMistake::TornForgotten) {
-                refused(Answer::BrokenLog, 0)
             } else {
-                refused(Answer::BrokenLog, carried)
+                self.torn(carried, part)
             };
         }
         if self.has(FeedMistake::TornEarly) && carried + part.len() > 2 {
-            return refused(Answer::BrokenLog, carried);
+            return refused(Answer::TornLog, carried);
         }
         let from = match self.has(FeedMistake::PartDropped) && !part.is_empty() {
             true => 0,
@@ -257,6 +285,18 @@ impl Feeder {
         Fed {
             looks,
             ..more(part.len(), (from + part.len()).min(CARRY))
+        }
+    }
+
+    /// The log is over, and too few bytes are in.
+    fn torn(&self, carried: usize, part: &[u8]) -> Fed {
+        match self.mistake {
+            Some(FeedMistake::TornForgotten) => refused(Answer::TornLog, 0),
+            Some(FeedMistake::TornImpossible) => refused(Answer::ImpossibleLength, carried),
+            Some(FeedMistake::OneByteImpossible) if carried + part.len() == 1 => {
+                refused(Answer::ImpossibleLength, carried)
+            }
+            _ => refused(Answer::TornLog, carried),
         }
     }
 

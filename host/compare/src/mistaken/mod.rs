@@ -58,15 +58,28 @@ mistakes! {
         TooLongZoneTaken: "Z = 4,097 is taken",
         LongestZoneRefused: "Z = 4,096 is refused",
         ShortInputTaken: "fewer than 8 bytes are an empty log",
-        EmptyLogBroken: "an empty log is broken",
+        EmptyLogTorn: "an empty log is torn",
         LastByteIgnored: "a single byte at the end is not seen",
+        LastByteImpossible: "a single byte at the end is an impossible length",
+        LastByteJudged: "a single byte at the end that no length begins with is an impossible length",
         TornRecordIgnored: "a torn record is the end",
         TornRecordMalformed: "a torn record answers 4",
+        TornRecordImpossible: "a record that runs past the end is an impossible length",
+        LengthAloneImpossible: "a length with nothing behind it is impossible, whatever it says",
         LengthSixTaken: "length 6 is handed out",
-        LengthSevenRefused: "length 7 is broken",
-        LengthNotMost: "length 903 is broken",
+        LengthSevenRefused: "length 7 is impossible",
+        LengthNotMost: "length 903 is impossible",
         LengthAboveTaken: "length 904 is handed out",
-        MalformedBreaks: "a malformed record breaks the log",
+        ImpossibleTorn: "an impossible length is a torn log",
+        ImpossibleShortTorn: "an impossible length that runs past the end is a torn log",
+        ImpossibleWholeTorn: "an impossible length whose bytes are there is a torn log",
+        ImpossibleAloneTorn: "an impossible length with nothing behind it is a torn log",
+        LengthBelowTorn: "a length below 7 is a torn log",
+        LengthAboveTorn: "a length above 903 is a torn log",
+        ZeroIsEnd: "length 0 is the end",
+        ErasedIsEnd: "length 65,535 is the end, as if erased flash were",
+        MalformedTorn: "a malformed record is a torn log",
+        MalformedImpossible: "a malformed record is an impossible length",
         LittleEndianClamped: "the snapshot is read little-endian and clamped to p",
         LittleEndian: "the snapshot is read little-endian",
         VersionIgnored: "the version is not looked at",
@@ -166,14 +179,15 @@ pub fn lines(mistake: Option<Mistake>, input: &[u8]) -> String {
         match next_part(mistake, rest) {
             Next::Part(part) => {
                 let verdict = pool.meld(part);
-                if verdict.0 == 4 && has(Mistake::MalformedBreaks) {
-                    return text + "10\n";
+                match mistake {
+                    Some(Mistake::MalformedTorn) if verdict.0 == 4 => return text + "10\n",
+                    Some(Mistake::MalformedImpossible) if verdict.0 == 4 => return text + "11\n",
+                    _ => {}
                 }
                 text += &format!("{} {} {}\n", verdict.2, verdict.0, verdict.1);
                 rest = &rest[part.len()..];
             }
-            Next::End => return text + "end\n",
-            Next::Broken => return text + "10\n",
+            ending => return text + ending.closing(),
         }
     }
 }

@@ -3,6 +3,7 @@
 
 use super::explainer::Explainer;
 use super::record::{limits, next_part, Next};
+use super::Mistake;
 
 mistakes! {
     /// A mistake that one might make in telling why a record gets its answer (R50).
@@ -55,6 +56,21 @@ mistakes! {
         LooksMissing: "looks are 0",
         LooksGoOn: "the looks go on behind the first key in conflict",
         ExplainingMelds: "explaining melds the record",
+        ImpossibleTorn: "an impossible length is closed with 10",
+        ImpossibleShortTorn: "an impossible length that runs past the end is closed with 10",
+        TornImpossible: "a record that runs past the end is closed with 11",
+    }
+}
+
+impl ReasonMistake {
+    /// The mistake of the program's walk that it is, if it is one.
+    fn in_walk(self) -> Option<Mistake> {
+        match self {
+            ReasonMistake::ImpossibleTorn => Some(Mistake::ImpossibleTorn),
+            ReasonMistake::ImpossibleShortTorn => Some(Mistake::ImpossibleShortTorn),
+            ReasonMistake::TornImpossible => Some(Mistake::TornRecordImpossible),
+            _ => None,
+        }
     }
 }
 
@@ -64,16 +80,16 @@ pub fn lines(mistake: Option<ReasonMistake>, input: &[u8]) -> String {
         return "9\n".to_string();
     };
     let mut explainer = Explainer::new(mistake, limits);
+    let walk = mistake.and_then(ReasonMistake::in_walk);
     let (mut rest, mut text) = (log, String::new());
     for position in 1.. {
-        match next_part(None, rest) {
+        match next_part(walk, rest) {
             Next::Part(part) => {
                 text += &explainer.explain(part).line(position);
                 explainer.meld(part);
                 rest = &rest[part.len()..];
             }
-            Next::End => return text + "end\n",
-            Next::Broken => return text + "10\n",
+            ending => return text + ending.closing(),
         }
     }
     text

@@ -14,7 +14,20 @@ pub struct Fields {
 pub enum Next<'a> {
     Part(&'a [u8]),
     End,
-    Broken,
+    Torn,
+    Impossible,
+}
+
+impl Next<'_> {
+    /// The closing line, if no record comes next.
+    pub fn closing(&self) -> &'static str {
+        match self {
+            Next::Part(_) => "",
+            Next::End => "end\n",
+            Next::Torn => "10\n",
+            Next::Impossible => "11\n",
+        }
+    }
 }
 
 /// N and Z if they are good, with N up to `most`, and the log.
@@ -29,33 +42,49 @@ pub fn limits(most: u32, input: &[u8]) -> Option<((u32, u32), &[u8])> {
 /// The part at the front of what is left of the log.
 pub fn next_part(mistake: Option<Mistake>, rest: &[u8]) -> Next<'_> {
     let has = |other| mistake == Some(other);
-    if rest.is_empty() {
-        return if has(Mistake::EmptyLogBroken) {
-            Next::Broken
-        } else {
-            Next::End
-        };
-    }
-    if rest.len() == 1 {
-        return if has(Mistake::LastByteIgnored) {
-            Next::End
-        } else {
-            Next::Broken
-        };
-    }
-    let length = usize::from(rest[0]) * 256 + usize::from(rest[1]);
+    let (high, low) = match rest {
+        [] if has(Mistake::EmptyLogTorn) => return Next::Torn,
+        [] => return Next::End,
+        [_] if has(Mistake::LastByteIgnored) => return Next::End,
+        [_] if has(Mistake::LastByteImpossible) => return Next::Impossible,
+        [byte] if has(Mistake::LastByteJudged) && *byte > 3 => return Next::Impossible,
+        [_] => return Next::Torn,
+        [high, low, ..] => (*high, *low),
+    };
+    let length = usize::from(high) * 256 + usize::from(low);
     let least = 7 + usize::from(has(Mistake::LengthSevenRefused))
         - usize::from(has(Mistake::LengthSixTaken));
     let most = 903 + usize::from(has(Mistake::LengthAboveTaken))
         - usize::from(has(Mistake::LengthNotMost));
     if length < least || length > most {
-        return Next::Broken;
+        return impossible(mistake, length, rest.len() - 2);
     }
     match rest.get(..length + 2) {
         Some(part) => Next::Part(part),
         None if has(Mistake::TornRecordIgnored) => Next::End,
         None if has(Mistake::TornRecordMalformed) => Next::Part(rest),
-        None => Next::Broken,
+        None if has(Mistake::TornRecordImpossible) => Next::Impossible,
+        None if has(Mistake::LengthAloneImpossible) && rest.len() == 2 => Next::Impossible,
+        None => Next::Torn,
+    }
+}
+
+/// What is said of a length that cannot be, with so many bytes behind it.
+fn impossible(mistake: Option<Mistake>, length: usize, behind: usize) -> Next<'static> {
+    let torn = match mistake {
+        Some(Mistake::ZeroIsEnd) if length == 0 => return Next::End,
+        Some(Mistake::ErasedIsEnd) if length == 0xFFFF => return Next::End,
+        Some(Mistake::ImpossibleTorn) => true,
+        Some(Mistake::ImpossibleShortTorn) => behind < length,
+        Some(Mistake::ImpossibleWholeTorn) => behind >= length,
+        Some(Mistake::ImpossibleAloneTorn) => behind == 0,
+        Some(Mistake::LengthBelowTorn) => length < 7,
+        Some(Mistake::LengthAboveTorn) => length > 903,
+        _ => false,
+    };
+    match torn {
+        true => Next::Torn,
+        false => Next::Impossible,
     }
 }
 
