@@ -2,6 +2,8 @@
 //! idea, for those of the page form the sizes of the parts instead of reasons; an index,
 //! and all logs in hex and in words.
 
+use std::ops::RangeFrom;
+
 use reference::pages::{self, sizes_text};
 use reference::program::lines;
 use reference::reason;
@@ -18,16 +20,27 @@ struct Set {
 }
 
 impl Set {
-    /// All of them.
+    /// All of them. A number never changes: what is new stands behind all that was there,
+    /// whichever of the three it belongs to.
     fn new() -> Set {
-        let (whole, in_parts) = (ideas::all(), ideas::parts::all());
-        let (first_part, first_reason) = (whole.len(), whole.len() + in_parts.len());
-        Set {
-            whole: (0..).zip(whole).collect(),
-            in_parts: (first_part..).zip(in_parts).collect(),
-            reasons: (first_reason..).zip(ideas::reason::all()).collect(),
-        }
+        let mut next = 0..;
+        let mut set = Set {
+            whole: numbered(&mut next, ideas::first()),
+            in_parts: numbered(&mut next, ideas::parts::first()),
+            reasons: numbered(&mut next, ideas::reason::all()),
+        };
+        let endings = numbered(&mut next, ideas::log::endings());
+        set.whole.extend(endings);
+        let endings = numbered(&mut next, ideas::parts::torn_or_impossible());
+        set.in_parts.extend(endings);
+        set
     }
+}
+
+/// Ideas with the next numbers.
+fn numbered<T>(next: &mut RangeFrom<usize>, ideas: Vec<T>) -> Vec<(usize, T)> {
+    let with_number = ideas.into_iter().zip(next);
+    with_number.map(|(idea, number)| (number, idea)).collect()
 }
 
 /// The files by name, in a fixed order.

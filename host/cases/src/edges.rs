@@ -1,6 +1,7 @@
 //! Further cases for the gate: mechanical ones, and ones too long to read.
 
 use reference::program::join;
+use reference::record::with_length;
 use reference::table::{self, record, scanning};
 use reference::{Point, Record};
 
@@ -13,7 +14,13 @@ pub fn all() -> Vec<Case> {
     cases.extend(bad_limits());
     cases.extend(flips());
     cases.extend([longest_zone(4_096), longest_zone(4_095)]);
-    cases.extend([all_keys(3), all_keys(100), most_looks(), torn_rows()]);
+    cases.extend([
+        all_keys(3),
+        all_keys(100),
+        most_looks(),
+        document_and_a_length(),
+    ]);
+    cases.extend(lengths());
     cases
 }
 
@@ -168,12 +175,34 @@ fn most_looks() -> Case {
     )
 }
 
-/// The eleven rows, then a broken end.
-fn torn_rows() -> Case {
+/// The eleven rows, then length 904.
+fn document_and_a_length() -> Case {
     let input = [table::input(), vec![3, 0x88, 1]].concat();
     case(
-        "document-torn".to_string(),
-        "The eleven rows before a broken end.",
+        "document-impossible".to_string(),
+        "The eleven rows before an impossible length.",
         input,
     )
+}
+
+/// Lengths at their edges, behind a record: with nothing behind them, with one byte, one
+/// too few, and all of them where that is short enough for the gate. And single bytes.
+fn lengths() -> Vec<Case> {
+    let first = record(0, &[Point::put(10, 100)]).to_bytes();
+    let ended = |name: String, end: &[u8]| {
+        let input = join(3, 4, &[&first[..], end].concat());
+        case(name, "A torn log and an impossible length.", input)
+    };
+    let byte = |byte: u8| ended(format!("last-byte-{byte}"), &[byte]);
+    let mut cases: Vec<Case> = [0, 3, 4, 255].map(byte).to_vec();
+    for length in [0, 1, 5, 6, 7, 8, 902, 903, 904, 905, 1_024, 1_792, 65_535] {
+        let whole = with_length(&vec![1; length]);
+        let mut ends = vec![2, 3, whole.len() - 1, whole.len()];
+        ends.retain(|&end| 2 <= end && end <= whole.len() && end < 2_000);
+        ends.sort_unstable();
+        ends.dedup();
+        let there = |end: usize| format!("length-{length}-and-{}", end - 2);
+        cases.extend(ends.into_iter().map(|end| ended(there(end), &whole[..end])));
+    }
+    cases
 }

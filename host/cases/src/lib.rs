@@ -28,7 +28,7 @@ pub struct InParts {
     pub sizes: Vec<usize>,
 }
 
-/// Every case of the gate, in a fixed order.
+/// Every case of the gate, in a fixed order; what is new comes last.
 pub fn all() -> Vec<Case> {
-    [ideas::all(), edges::all()].concat()
+    [ideas::first(), edges::all(), ideas::log::endings()].concat()
 }

@@ -56,6 +56,71 @@ fn the_conformance_set_in_parts_catches_every_mistake_that_lines_show() {
     }
 }
 
+/// The cases of torn logs and impossible lengths, and the mistake that each is made for.
+const ENDINGS: &[(&str, Mistake)] = &[
+    ("log-length-904-past-the-end", Mistake::ImpossibleShortTorn),
+    ("log-length-6-short", Mistake::LengthBelowTorn),
+    ("log-length-6-alone", Mistake::ImpossibleAloneTorn),
+    ("log-length-0-alone", Mistake::ZeroIsEnd),
+    ("log-length-65535", Mistake::ErasedIsEnd),
+    ("log-length-903-alone", Mistake::LengthAloneImpossible),
+    ("log-three-bytes-left", Mistake::TornRecordImpossible),
+    ("log-three-bytes-left-impossible", Mistake::LengthAboveTorn),
+    ("log-one-byte-left-ff", Mistake::LastByteJudged),
+    ("log-impossible-first", Mistake::ImpossibleTorn),
+    ("log-impossible-behind-refusals", Mistake::MalformedTorn),
+];
+
+/// The same in parts.
+const ENDINGS_IN_PARTS: &[(&str, FeedMistake)] = &[
+    (
+        "parts-impossible-past-the-end",
+        FeedMistake::ImpossibleShortTorn,
+    ),
+    ("parts-impossible-last", FeedMistake::ImpossibleLate),
+    ("parts-erased", FeedMistake::FirstByteJudged),
+    ("parts-one-byte-left-ff", FeedMistake::OneByteImpossible),
+    ("parts-length-alone", FeedMistake::TornImpossible),
+    ("parts-three-bytes-left", FeedMistake::TornIsEnd),
+    ("parts-torn-903", FeedMistake::TornForgotten),
+];
+
+#[test]
+fn each_ending_catches_the_mistake_that_it_is_made_for() {
+    let cases = ideas::log::endings();
+    assert_eq!(cases.len(), ENDINGS.len());
+    for (case, (name, mistake)) in cases.iter().zip(ENDINGS) {
+        assert_eq!(case.name, *name);
+        assert!(shows(case, Some(*mistake)), "{name}");
+    }
+    let cases = ideas::parts::torn_or_impossible();
+    assert_eq!(cases.len(), ENDINGS_IN_PARTS.len());
+    for (case, (name, mistake)) in cases.iter().zip(ENDINGS_IN_PARTS) {
+        assert_eq!(case.case.name, *name);
+        assert!(shows_in_parts(case, Some(*mistake)), "{name}");
+    }
+}
+
+/// The numbers of the files never change: the last ones of each kind that were there
+/// before torn logs and impossible lengths were told apart, and the first behind them.
+#[test]
+fn numbers_do_not_change() {
+    let files = cases::conformance::files();
+    let names: BTreeSet<&str> = files.iter().map(|(name, _)| name.as_str()).collect();
+    for name in [
+        "01-little-endian-snapshot.input",
+        "99-limits-short.input",
+        "100-parts-one-a-record.input",
+        "117-parts-limits.input",
+        "118-reason-smallest-key.input",
+        "148-reason-changes-nothing.input",
+        "149-log-length-904-past-the-end.input",
+        "160-parts-impossible-past-the-end.input",
+    ] {
+        assert!(names.contains(name), "{name}");
+    }
+}
+
 /// Do the reasons with this mistake differ for this case?
 fn shows_in_reasons(case: &Case, mistake: Option<ReasonMistake>) -> bool {
     reason::lines(mistake, &case.input) != reference::reason::lines(&case.input)
@@ -151,13 +216,21 @@ const MADE_FOR: &[(ReasonMistake, &str)] = &[
     (ReasonMistake::LooksMissing, "reason-looks"),
     (ReasonMistake::LooksGoOn, "reason-looks"),
     (ReasonMistake::ExplainingMelds, "reason-changes-nothing"),
+    (ReasonMistake::ImpossibleTorn, "log-length-6-alone"),
+    (
+        ReasonMistake::ImpossibleShortTorn,
+        "log-length-904-past-the-end",
+    ),
+    (ReasonMistake::TornImpossible, "log-three-bytes-left"),
 ];
 
 #[test]
 fn every_mistake_in_reasons_is_caught_by_the_case_made_for_it() {
     let cases = ideas::reason::all();
+    let endings = ideas::log::endings();
     for (mistake, name) in MADE_FOR {
-        let made = cases.iter().find(|case| case.name == *name);
+        let mut all = cases.iter().chain(&endings);
+        let made = all.find(|case| case.name == *name);
         let made = made.unwrap_or_else(|| panic!("there is no case {name}"));
         let caught = shows_in_reasons(made, Some(*mistake));
         assert!(caught, "{name} does not catch: {}", mistake.words());
@@ -203,13 +276,13 @@ fn every_answer_and_every_end_is_there() {
             Err(answer) => drop(seen.insert(answer.number())),
             Ok(run) => {
                 seen.extend(run.verdicts.iter().map(|verdict| verdict.answer.number()));
-                seen.insert(if run.ended { 100 } else { 10 });
+                seen.insert(run.ending.answer().map_or(100, |answer| answer.number()));
             }
         }
     }
     assert_eq!(
         seen.into_iter().collect::<Vec<_>>(),
-        [0, 1, 2, 3, 4, 5, 9, 10, 100]
+        [0, 1, 2, 3, 4, 5, 9, 10, 11, 100]
     );
 }
 

@@ -5,7 +5,7 @@
 mod conflict;
 mod easy;
 mod limits;
-mod log;
+pub mod log;
 mod looks;
 pub mod parts;
 pub mod reason;
@@ -19,8 +19,13 @@ use reference::Record;
 
 use crate::Case;
 
-/// Every idea, in the order of the files.
+/// Every idea of the program.
 pub fn all() -> Vec<Case> {
+    [first(), log::endings()].concat()
+}
+
+/// Those that have the first numbers, in the order of the files.
+pub fn first() -> Vec<Case> {
     [
         easy::all(),
         zone::all(),

@@ -10,10 +10,12 @@ use crate::{Case, InParts};
 
 /// The cases.
 pub fn all() -> Vec<InParts> {
-    let mut cases = whole_records();
-    cases.extend(carried_records());
-    cases.extend(endings());
-    cases
+    [first(), torn_or_impossible()].concat()
+}
+
+/// Those that have the first numbers.
+pub fn first() -> Vec<InParts> {
+    [whole_records(), carried_records(), endings()].concat()
 }
 
 /// A case in parts of these sizes.
@@ -190,7 +192,7 @@ fn endings() -> Vec<InParts> {
             &[10, 1, 9, 9],
             pieces(
                 "parts-impossible-length",
-                "An impossible length in two parts said only at the end, or passed over: 10 is said with its \
+                "An impossible length in two parts said only at the end, or passed over: 11 is said with its \
                  second byte, and nothing after it.",
                 (3, 4),
                 &[&nothing(0), &[3, 0x88], &nothing(1), &nothing(2)],
@@ -222,6 +224,77 @@ fn endings() -> Vec<InParts> {
                 catches: "Limits not looked at: `9` is the only line.".to_string(),
                 input: join(0, 4, &nothing(0)),
             },
+        ),
+    ]
+}
+
+/// A torn log, 10 when it is over, told from an impossible length, 11 at once.
+pub fn torn_or_impossible() -> Vec<InParts> {
+    let full = with_length(&[1; 903]);
+    vec![
+        in_parts(
+            &[],
+            pieces(
+                "parts-impossible-past-the-end",
+                "10 or `more` said of an impossible length because too few bytes are behind it: it is 11.",
+                (3, 4),
+                &[&nothing(0), &[3, 0x88], &nothing(1)],
+            ),
+        ),
+        in_parts(
+            &[10, 1, 0, 0],
+            pieces(
+                "parts-impossible-last",
+                "An impossible length whose second byte is the log's last kept for the end, or told as torn: it \
+                 is 11 before the log is said to be over.",
+                (3, 4),
+                &[&nothing(0), &[0, 6]],
+            ),
+        ),
+        in_parts(
+            &[10, 1, 5],
+            pieces(
+                "parts-erased",
+                "11 said with the first of two bytes, since no length begins with FF: it is said with the second.",
+                (3, 4),
+                &[&nothing(0), &[0xFF; 20]],
+            ),
+        ),
+        in_parts(
+            &[9, 1, 0],
+            pieces(
+                "parts-one-byte-left-ff",
+                "11 said of a single carried byte that no length begins with: when the log is over it is 10.",
+                (3, 4),
+                &[&nothing(0), &[0xFF]],
+            ),
+        ),
+        in_parts(
+            &[9, 2],
+            pieces(
+                "parts-length-alone",
+                "11 or the end said of a carried length with nothing behind it: 903 is a length, and it is 10.",
+                (3, 4),
+                &[&nothing(0), &[3, 0x87]],
+            ),
+        ),
+        in_parts(
+            &[10, 1, 1],
+            pieces(
+                "parts-three-bytes-left",
+                "11 or the end said of a record that stops behind its first byte: 10, with three bytes carried.",
+                (3, 4),
+                &[&nothing(0), &[0, 7, 1]],
+            ),
+        ),
+        in_parts(
+            &[256; 4],
+            pieces(
+                "parts-torn-903",
+                "A record of 905 bytes short of its last one, over four pages: 10, with 904 bytes carried.",
+                (3, 4),
+                &[&full[..904]],
+            ),
         ),
     ]
 }
