@@ -19,7 +19,7 @@ use Rattle.writer.specs.declared.Written.{Written}
 use Rattle.writer.specs.Writer.{WriteOutcome, writeOutcome, WritesAs}
 use Rattle.pairs.specs.Pairs.{PairsWritten, OneWritten}
 use Rattle.log.specs.declared.found.Cut.{Cut}
-use Rattle.log.specs.Log.{CutIs, HandedOut, SameSlice}
+use Rattle.log.specs.Log.{impossible, CutIs, HandedOut, SameSlice}
 use Rattle.log.proofs.Only.{only-cut, only-part}
 use Rattle.log_reader.specs.declared.LogReader.{LogReader}
 use Rattle.log_reader.specs.declared.Step.{Step}
@@ -58,6 +58,9 @@ one-if-equal z x y e f = e ∙ sym f
 
 pub check-one : (bytes : List ℕ) → OneAnswer (CheckIs bytes)
 check-one bytes = one-if-equal (checkOf (parse bytes))
+
+pub is-impossible-one : (length : ℕ) → OneAnswer (λ (b : Bool). b ≡ impossible length)
+is-impossible-one length = one-if-equal (impossible length)
 
 pub kind-one : (q : Point) → OneAnswer (KindIs q)
 kind-one q = one-if-equal (kindOf q)
