@@ -26,10 +26,13 @@ cut-as-before log place =
     let two : place + 2 ≤ length log = ltb-false _ _ b in
     let in-log : place ≤ length log = omega arith in
     let k : ltb (length log) place ≡ false = le-ltb _ _ in-log in
-    by-case (ltb (lengthAt log place) minLength) (λ d. simp (a, b, k, d)) λ d.
-    by-case (ltb maxLength (lengthAt log place)) (λ f. simp (a, b, k, d, f)) λ f.
-    by-case (runsPast log place) (λ g. simp (a, b, k, d, f, g)) λ g.
-    simp (a, b, k, d, f, g)
+    by-case (runsPast log place)
+    (λ g.
+    by-case (ltb (lengthAt log place) minLength) (λ d. simp (a, b, k, g, d)) λ d.
+    by-case (ltb maxLength (lengthAt log place)) (λ f. simp (a, b, k, g, d, f)) λ f. simp (a, b, k, g, d, f)) λ g.
+    by-case (ltb (lengthAt log place) minLength) (λ d. simp (a, b, k, g, d)) λ d.
+    by-case (ltb maxLength (lengthAt log place)) (λ f. simp (a, b, k, g, d, f)) λ f.
+    simp (a, b, k, g, d, f)
 
 -- what was "end" is "end"
 end-back : (c : Cut) → saidBefore c ≡ ended → c ≡ End

@@ -15,7 +15,7 @@ use Rattle.log.specs.declared.found.Cut.{Cut}
 use Rattle.log.specs.declared.found.Cut.the-variants.{End, Torn, Impossible, Record}
 use Rattle.log.specs.Log.{cutAt, lengthAt, impossible, partOf, RecordAt}
 use Rattle.log.specs.Walk.{Walks, ends, tears, hands, joined, Agree, CutLog}
-use Rattle.log.proofs.Stands.{record-tells, end-tells, end-found, torn-found, torn-not-impossible, impossible-not-end}
+use Rattle.log.proofs.Stands.{record-tells, end-tells, end-found, torn-found, apart}
 use Rattle.log.proofs.Same.{same-length, cut-same, part-same}
 use Rattle.log.proofs.Lengths.{possible-is}
 use Rattle.log.proofs.Walk.{walks-once}
@@ -160,10 +160,10 @@ cut-never-impossible log parts n w others last v i = elim (decLe n (length log))
         let c : CutLog log parts n = cut-log log parts n w h in
         let e : c .last ≡ Impossible = walks-once (c .walks) others last v .1 ∙ i in
         elim (decLe n (length (joined (c .before)))) [
-          | yes l ↦ impossible-not-end (sym e ∙ c .between (omega (arith, c .wholly)))
-          | no l ↦ torn-not-impossible (sym (c .amid (λ here. l (omega arith))) ∙ e)
+          | yes l ↦ apart (sym e ∙ c .between (omega (arith, c .wholly))) (λ z. omega arith)
+          | no l ↦ apart (sym (c .amid (λ here. l (omega arith))) ∙ e) (λ z. omega arith)
         ]
 
     -- it lies at its end or past it: the log is the whole one
     outside : length log ≤ n → ⊥
-    outside h = impossible-not-end (sym i ∙ walks-once v parts End (subst (λ (l : List ℕ). Walks l 0 parts End) (sym (take-all n log h)) w) .1)
+    outside h = apart (sym i ∙ walks-once v parts End (subst (λ (l : List ℕ). Walks l 0 parts End) (sym (take-all n log h)) w) .1) (λ z. omega arith)

@@ -18,29 +18,28 @@ use Rattle.log.proofs.Lengths.{possible-tells, possible-is}
 
 -- THE CASES EXCLUDE EACH OTHER
 
+-- each case as a number
+abbrev rank : Cut → ℕ
+rank End = 0
+rank Torn = 1
+rank Impossible = 2
+rank (Record next) = 3
+
+-- cases with other numbers are not the same
+pub apart : {P : Type 0} {c d : Cut} → c ≡ d → (rank c ≡ rank d → ⊥) → P
+apart e n = absurd (n (ap rank e))
+
 -- the end is no record
 pub end-not-record : {P : Type 0} {next : ℕ} → End ≡ Record next → P
-end-not-record e = let z : _≡_ {A = ℕ} 0 1 = cc in absurd (omega arith)
+end-not-record e = apart e (λ z. omega arith)
 
 -- a torn log is no record
 pub torn-not-record : {P : Type 0} {next : ℕ} → Torn ≡ Record next → P
-torn-not-record e = let z : _≡_ {A = ℕ} 0 1 = cc in absurd (omega arith)
+torn-not-record e = apart e (λ z. omega arith)
 
 -- an impossible length is no record
 pub impossible-not-record : {P : Type 0} {next : ℕ} → Impossible ≡ Record next → P
-impossible-not-record e = let z : _≡_ {A = ℕ} 0 1 = cc in absurd (omega arith)
-
--- a torn log is not the end
-pub torn-not-end : {P : Type 0} → Torn ≡ End → P
-torn-not-end e = let z : _≡_ {A = ℕ} 0 1 = cc in absurd (omega arith)
-
--- an impossible length is not the end
-pub impossible-not-end : {P : Type 0} → Impossible ≡ End → P
-impossible-not-end e = let z : _≡_ {A = ℕ} 0 1 = cc in absurd (omega arith)
-
--- a torn log has no impossible length
-pub torn-not-impossible : {P : Type 0} → Torn ≡ Impossible → P
-torn-not-impossible e = let z : _≡_ {A = ℕ} 0 1 = cc in absurd (omega arith)
+impossible-not-record e = apart e (λ z. omega arith)
 
 -- a record has one place past it
 pub same-next : {next other : ℕ} → Record next ≡ Record other → next ≡ other
@@ -54,41 +53,44 @@ module _ (log : List ℕ) (place : ℕ) where
   unfolding cutAt
   end-tells e =
       by-case (endsAt log place) (λ a. eqb-true _ _ a) λ a.
-      by-case (noLengthAt log place) (λ b. torn-not-end (simp (a, b) at e)) λ b.
-      by-case (impossible (lengthAt log place)) (λ d. impossible-not-end (simp (a, b, d) at e)) λ d.
-      by-case (runsPast log place) (λ g. torn-not-end (simp (a, b, d, g) at e)) λ g.
-      end-not-record (sym (simp (a, b, d, g) at e))
+      by-case (noLengthAt log place) (λ b. apart (simp (a, b) at e) (λ z. omega arith)) λ b.
+      by-case (runsPast log place)
+      (λ g. by-case (impossible (lengthAt log place)) (λ d. apart (simp (a, b, g, d) at e) (λ z. omega arith)) λ d. apart (simp (a, b, g, d) at e) (λ z. omega arith)) λ g.
+      by-case (impossible (lengthAt log place)) (λ d. apart (simp (a, b, g, d) at e) (λ z. omega arith)) λ d.
+      apart (simp (a, b, g, d) at e) (λ z. omega arith)
 
   -- 11 is said only where two bytes are left that are no length of a record
   pub impossible-said : cutAt log place ≡ Impossible → (place + 2 ≤ length log) × (impossible (lengthAt log place) ≡ true)
   unfolding cutAt
   impossible-said e =
-      by-case (endsAt log place) (λ a. impossible-not-end (sym (simp a at e))) λ a.
-      by-case (noLengthAt log place) (λ b. torn-not-impossible (simp (a, b) at e)) λ b.
+      by-case (endsAt log place) (λ a. apart (simp a at e) (λ z. omega arith)) λ a.
+      by-case (noLengthAt log place) (λ b. apart (simp (a, b) at e) (λ z. omega arith)) λ b.
       by-case (impossible (lengthAt log place)) (λ d. (ltb-false _ _ b, d)) λ d.
-      by-case (runsPast log place) (λ g. torn-not-impossible (simp (a, b, d, g) at e)) λ g.
-      impossible-not-record (sym (simp (a, b, d, g) at e))
+      by-case (runsPast log place) (λ g. apart (simp (a, b, d, g) at e) (λ z. omega arith)) λ g.
+      apart (simp (a, b, d, g) at e) (λ z. omega arith)
 
   -- 10 is said only where there are too few bytes: fewer than two, or fewer than a length that can be asks for
   pub torn-said : cutAt log place ≡ Torn
       → (place ≡ length log → ⊥) × ((length log < place + 2) ⊎ ((impossible (lengthAt log place) ≡ false) × (length log < pastAt log place)))
   unfolding cutAt
   torn-said e =
-      by-case (endsAt log place) (λ a. torn-not-end (sym (simp a at e))) λ a.
+      by-case (endsAt log place) (λ a. apart (simp a at e) (λ z. omega arith)) λ a.
       by-case (noLengthAt log place) (λ b. (eqb-false _ _ a, inl (ltb-true _ _ b))) λ b.
-      by-case (impossible (lengthAt log place)) (λ d. torn-not-impossible (sym (simp (a, b, d) at e))) λ d.
-      by-case (runsPast log place) (λ g. (eqb-false _ _ a, inr (d, ltb-true _ _ g))) λ g.
-      torn-not-record (sym (simp (a, b, d, g) at e))
+      by-case (runsPast log place)
+      (λ g. by-case (impossible (lengthAt log place)) (λ d. apart (simp (a, b, g, d) at e) (λ z. omega arith)) λ d. (eqb-false _ _ a, inr (d, ltb-true _ _ g))) λ g.
+      by-case (impossible (lengthAt log place)) (λ d. apart (simp (a, b, g, d) at e) (λ z. omega arith)) λ d.
+      apart (simp (a, b, g, d) at e) (λ z. omega arith)
 
   -- a record is said only where one stands whole
   pub record-tells : (next : ℕ) → cutAt log place ≡ Record next → RecordAt log place next
   unfolding cutAt
   record-tells next e =
-      by-case (endsAt log place) (λ a. end-not-record (simp a at e)) λ a.
-      by-case (noLengthAt log place) (λ b. torn-not-record (simp (a, b) at e)) λ b.
-      by-case (impossible (lengthAt log place)) (λ d. impossible-not-record (simp (a, b, d) at e)) λ d.
-      by-case (runsPast log place) (λ g. torn-not-record (simp (a, b, d, g) at e)) λ g.
-      let y : pastAt log place ≡ next = same-next (simp (a, b, d, g) at e) in
+      by-case (endsAt log place) (λ a. apart (simp a at e) (λ z. omega arith)) λ a.
+      by-case (noLengthAt log place) (λ b. apart (simp (a, b) at e) (λ z. omega arith)) λ b.
+      by-case (runsPast log place)
+      (λ g. by-case (impossible (lengthAt log place)) (λ d. apart (simp (a, b, g, d) at e) (λ z. omega arith)) λ d. apart (simp (a, b, g, d) at e) (λ z. omega arith)) λ g.
+      by-case (impossible (lengthAt log place)) (λ d. apart (simp (a, b, g, d) at e) (λ z. omega arith)) λ d.
+      let y : pastAt log place ≡ next = same-next (simp (a, b, g, d) at e) in
       let over : pastAt log place ≤ length log = ltb-false _ _ g in
       let p = possible-tells (lengthAt log place) d in
       record { least = p .0; most = p .1; past = sym y; inside = omega arith }
