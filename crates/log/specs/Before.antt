@@ -11,7 +11,7 @@ use Rattle.log.specs.declared.found.Cut.{Cut}
 use Rattle.log.specs.declared.found.Cut.the-variants.{End, Torn, Impossible, Record}
 use Rattle.log.specs.Log.{lengthAt, pastAt, endsAt}
 
--- what could stand at a place
+-- R14 as it was: what could stand at a place
 pub data CutBefore : Type 0 where
   -- the place was exactly the log's end
   ended : CutBefore
@@ -20,28 +20,28 @@ pub data CutBefore : Type 0 where
   -- a record, and the place past it
   whole : ℕ → CutBefore
 
--- the row of 10 as it was, said of a place that is not exactly at the end: past it, fewer than two bytes left, a length below 7 or above 903, a
+-- R14 as it was, the row of 10, said of a place that is not exactly at the end: past it, fewer than two bytes left, a length below 7 or above 903, a
 -- record that runs past the end
 abbrev pub brokenBefore : List ℕ → ℕ → Bool
 brokenBefore log place =
     ltb (length log) (place + 2) || ltb (length log) place || ltb (lengthAt log place) 7 || ltb 903 (lengthAt log place)
     || ltb (length log) (pastAt log place)
 
--- what stood at a place, the first row that applied
+-- R14 as it was: what stood at a place, the first row that applied
 unfoldable pub cutBefore : List ℕ → ℕ → CutBefore
 cutBefore log place =
     if endsAt log place then ended else
     if brokenBefore log place then broken else
     whole (pastAt log place)
 
--- what is said today, in the words of then
+-- R14: what is said today, in the words of then
 abbrev pub saidBefore : Cut → CutBefore
 saidBefore End = ended
 saidBefore Torn = broken
 saidBefore Impossible = broken
 saidBefore (Record next) = whole next
 
--- the steps of then led from a place to "end", and handed out these parts
+-- R14 as it was, R15: the steps of then led from a place to "end", and handed out these parts
 pub data EndedBefore (log : List ℕ) : ℕ → List (List ℕ) → Type 0 where
   ends : {place : ℕ} → cutBefore log place ≡ ended → EndedBefore log place []
   hands : {place next : ℕ} {parts : List (List ℕ)} → cutBefore log place ≡ whole next → EndedBefore log next parts
