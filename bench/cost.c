@@ -10,7 +10,8 @@
    reads and 8 scans of the 72 numbers, with the position before their combs as snapshot), lost (reads of kept keys, with half the position), late (the same,
    with 0). The others have the position as snapshot. With why- before it the record of such a call is explained and not melded. Three calls feed the
    record of kept: fed (all of it in the part, and nothing carried), begun (its first byte carried, the others in the part), more (all of it but its last
-   byte in the part, so that none is decided). With skip the call is left out; with stack the bytes of stack it used are printed; with compare both are
+   byte in the part, so that none is decided). Three cut a log that is the record of kept: cut (as it is), torn (without its last byte), sick (with a length
+   of 65,535). With skip the call is left out; with stack the bytes of stack it used are printed; with compare both are
    called, and their answers, looks, numbers and bytes have to be the same. The status is the call's answer, or one of those below. */
 #include <stdio.h>
 #include <stdlib.h>
@@ -166,7 +167,7 @@ static struct {
 } why;
 
 /* What feed is lent besides the pool, and what it tells. */
-enum call { LOOK, STATUS, MELD, EXPLAIN, FED, BEGUN, MORE };
+enum call { LOOK, STATUS, MELD, EXPLAIN, CUT, TORN, SICK, FED, BEGUN, MORE };
 static struct {
     uint8_t carry[EMUPARASOL_CARRY_BYTES], happened;
     uint64_t carried, part, taken;
@@ -179,10 +180,15 @@ static void lend(enum call call, const uint8_t *record, uint64_t size) {
     fed.part = call == FED ? size : size - 1;
 }
 
-/* Makes the call; instead of looks a lookup gives the position found, and status the tombstones. */
+/* Makes the call; instead of looks a lookup gives the position found, status the tombstones, and a cut the place then. */
 static uint8_t make_call(bool plain, enum call call, const uint8_t *record, uint64_t size, uint32_t *looks) {
-    uint64_t payload;
+    uint64_t payload, next;
     uint32_t limit, zone, position, kept;
+    if (call == CUT || call == TORN || call == SICK) {
+        uint8_t answer = (plain ? plain_cut : emuparasol_cut)(record, call == TORN ? size - 1 : size, 0, &next);
+        *looks = (uint32_t)next;
+        return answer;
+    }
     if (call == LOOK)
         return (plain ? plain_lookup : emuparasol_lookup)(pool, length, key_of(keys + 1), &payload, looks);
     if (call == STATUS)
@@ -229,6 +235,9 @@ int main(int argc, char **argv) {
     const char *melded = behind_why(call);
     enum call which = !strcmp(call, "look")     ? LOOK
                       : !strcmp(call, "status") ? STATUS
+                      : !strcmp(call, "cut")    ? CUT
+                      : !strcmp(call, "torn")   ? TORN
+                      : !strcmp(call, "sick")   ? SICK
                       : !strcmp(call, "fed")    ? FED
                       : !strcmp(call, "begun")  ? BEGUN
                       : !strcmp(call, "more")   ? MORE
@@ -237,6 +246,8 @@ int main(int argc, char **argv) {
     uint64_t size = which == LOOK || which == STATUS ? 0 : prepare(which == EXPLAIN ? melded : call, third, record);
     uint32_t looks = 0;
     uint8_t answer = EMUPARASOL_COMMITTED;
+    if (which == SICK)
+        record[0] = record[1] = 0xFF;
     if (which >= FED)
         lend(which, record, size);
     if (!strcmp(more, "stack")) {
@@ -260,7 +271,7 @@ int main(int argc, char **argv) {
         if (make_call(true, which, record, size, &other_looks) != answer || other_looks != looks || memcmp(after, once, length) != 0 ||
             memcmp(told, &fed, sizeof fed) != 0 || memcmp(reason, &why, sizeof why) != 0)
             return DIFFERENT;
-        printf("answer %u, %s %u, kept %u\n", answer, which == STATUS ? "tombstones" : "looks", looks, word_at(pool + 16));
+        printf("answer %u, %s %u, kept %u\n", answer, which == STATUS ? "tombstones" : which >= CUT && which <= SICK ? "place" : "looks", looks, word_at(pool + 16));
     }
     return answer;
 }
