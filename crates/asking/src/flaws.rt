@@ -3,7 +3,11 @@ use record::Answer;
 use record::check;
 use record::limits::MAX_POINTS;
 use record::limits::MAX_SCANS;
-use record::limits::VERSION;
+use record::limits::SMALL_POINTS;
+use record::limits::SMALL_SCANS;
+use record::limits::VERSION_1;
+use record::limits::VERSION_2;
+use record::version_for;
 use words::word2;
 use words::word4;
 ghost use Prim.Native.Nat.{_≤_};
@@ -22,10 +26,18 @@ pub enum Wrong {
     Length,
     // There is no such version.
     Version,
+    // Version 2, and the bytes end within its two counts.
+    Counts,
+    // More points than version 1 has.
+    PointsIn1,
+    // More scans than version 1 has.
+    ScansIn1,
     // Too many points.
     Points,
     // Too many scans.
     Scans,
+    // Version 2, with so few points and scans that they have version 1.
+    Few,
     // There is no such kind.
     Kind,
     // A point's key is not above the key before it.
@@ -171,12 +183,12 @@ fn past_scans(bytes: &[u8], start: usize, count: usize) -> Stepped
     Stepped::On { at, least }
 }
 
-// What is wrong with the points and scans behind a record's first nine bytes: with the points, then with the scans, then what is behind them.
-fn behind_head(bytes: &[u8], points: usize, scans: usize) -> Flaw
-    requires { ⌜ 9 ≤ length (now bytes) ⌝ }
+// What is wrong with the points and scans that start at a place: with the points, then with the scans, then what is behind them.
+fn behind_head(bytes: &[u8], start: usize, points: usize, scans: usize) -> Flaw
+    requires { ⌜ start ≤ length (now bytes) ⌝ }
     ensures { λ r. ⌜ isWrong (r .wrong) ≡ true ⌝ }
 {
-    let step = past_points(bytes, 9, points);
+    let step = past_points(bytes, start, points);
     match step {
         Stepped::Wrong(flaw) => flaw,
         Stepped::On { at, least: _ } => {
@@ -191,6 +203,68 @@ fn behind_head(bytes: &[u8], points: usize, scans: usize) -> Flaw
             }
         }
     }
+}
+
+// What is wrong with a record of version 1: with its counts, or behind them.
+fn in_version_1(bytes: &[u8]) -> Flaw
+    requires { ⌜ 9 ≤ length (now bytes) ⌝ }
+    ensures { λ r. ⌜ isWrong (r .wrong) ≡ true ⌝ }
+{
+    let points = wide(bytes[7]);
+    if SMALL_POINTS < points as usize {
+        return Flaw {
+            wrong: Wrong::PointsIn1,
+            at: 7,
+            number: points,
+        };
+    }
+    let scans = wide(bytes[8]);
+    if SMALL_SCANS < scans as usize {
+        return Flaw {
+            wrong: Wrong::ScansIn1,
+            at: 8,
+            number: scans,
+        };
+    }
+    behind_head(bytes, 9, points as usize, scans as usize)
+}
+
+// What is wrong with a record of version 2: with its counts, or behind them.
+fn in_version_2(bytes: &[u8]) -> Flaw
+    requires { ⌜ 9 ≤ length (now bytes) ⌝ }
+    ensures { λ r. ⌜ isWrong (r .wrong) ≡ true ⌝ }
+{
+    if bytes.len() < 11 {
+        return Flaw {
+            wrong: Wrong::Counts,
+            at: bytes.len(),
+            number: 0,
+        };
+    }
+    let points = word2(bytes, 7);
+    if MAX_POINTS < points as usize {
+        return Flaw {
+            wrong: Wrong::Points,
+            at: 7,
+            number: points,
+        };
+    }
+    let scans = word2(bytes, 9);
+    if MAX_SCANS < scans as usize {
+        return Flaw {
+            wrong: Wrong::Scans,
+            at: 9,
+            number: scans,
+        };
+    }
+    if version_for(points as usize, scans as usize) == VERSION_1 {
+        return Flaw {
+            wrong: Wrong::Few,
+            at: 2,
+            number: 0,
+        };
+    }
+    behind_head(bytes, 11, points as usize, scans as usize)
 }
 
 // What is wrong with bytes lent as a record, the first that is found from the front.
@@ -219,28 +293,15 @@ pub fn find_flaw(bytes: &[u8]) -> Flaw
             number: length,
         };
     }
-    if bytes[2] != VERSION {
-        return Flaw {
-            wrong: Wrong::Version,
-            at: 2,
-            number: wide(bytes[2]),
-        };
+    if bytes[2] == VERSION_1 {
+        return in_version_1(bytes);
     }
-    let points = wide(bytes[7]);
-    if MAX_POINTS < points as usize {
-        return Flaw {
-            wrong: Wrong::Points,
-            at: 7,
-            number: points,
-        };
+    if bytes[2] == VERSION_2 {
+        return in_version_2(bytes);
     }
-    let scans = wide(bytes[8]);
-    if MAX_SCANS < scans as usize {
-        return Flaw {
-            wrong: Wrong::Scans,
-            at: 8,
-            number: scans,
-        };
+    Flaw {
+        wrong: Wrong::Version,
+        at: 2,
+        number: wide(bytes[2]),
     }
-    behind_head(bytes, points as usize, scans as usize)
 }

@@ -10,8 +10,8 @@ use lib.ListN.{length, take, getD, replicate, getD-replicate, length-replicate, 
 use Rattle.words.specs.Word.{Bytes, bigEndian}
 use Rattle.record.specs.declared.answer.Answer.{Answer}
 use Rattle.record.specs.declared.point.Point.the-variants.{Put}
-use Rattle.record.specs.Record.{Rec, Valid, bytesOf}
-use Rattle.record.specs.Parse.{parse}
+use Rattle.record.specs.Record.{Rec, Valid, bytesOf, versionFor}
+use Rattle.record.specs.Parse.{firstPoint, headOk, parse}
 use Rattle.record.proofs.RoundTrip.{parse-bytesOf, valid-bytes}
 use Rattle.rules.specs.State.{State, fresh}
 use Rattle.rules.specs.Footprint.{reach, meets}
@@ -111,7 +111,7 @@ module _ (L : Library) where
 
   -- no bytes at all are malformed
   pub not-always-commits : AlwaysCommits L → ⊥
-  unfolding verdict parse
+  unfolding verdict parse headOk firstPoint
   not-always-commits f =
       let x = meld-means (fresh 1 1) new-means no-bytes (L .meld-keeps new [] (new-means .image .bytes) no-bytes) .0 in
       omega (arith, ap (λ (a : Answer). a .number) (sym (f new [] (new-means .image .bytes) no-bytes) ∙ ap (λ (y : Melded). y .answer) x))
@@ -156,14 +156,14 @@ module _ (L : Library) where
 
   -- a refresh at position 0 of a record with snapshot 0 answers 0
   pub not-always-ahead : AlwaysAhead L → ⊥
-  unfolding refresh leftBy reach meets hits refusalOr bigEndian
+  unfolding refresh leftBy reach meets hits refusalOr bigEndian versionFor
   not-always-ahead f =
       let x = refreshed new (fresh 1 1) new-means (nothing 0) valid-nothing (replicate 9 0) nine in
       omega (arith, ap (λ (a : Answer). a .number) (sym (f new (bytesOf (nothing 0)) (replicate 9 0) (new-means .image .bytes) (valid-bytes (nothing 0) valid-nothing) nine) ∙ ap (λ (o : RefreshOutcome). o .answer) x))
 
   -- at position 1 the byte of weight 1 of its snapshot is 1, not 0
   pub not-copies : Copies L → ⊥
-  unfolding first lookup verdict judge reach meets hits refusalOr count store storeAll young drops apply next refresh leftBy bigEndian
+  unfolding first lookup verdict judge reach meets hits refusalOr count store storeAll young drops apply next refresh leftBy bigEndian versionFor
   not-copies f =
       let S : State = next (fresh 1 1) (some (put 0 100)) in
       let x = refreshed first S first-means (nothing 0) valid-nothing (replicate 9 0) nine in

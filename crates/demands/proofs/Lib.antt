@@ -22,5 +22,6 @@ pub mod Feeding
 pub mod Parts
 pub mod SomeFeeding
 pub mod Torn
+pub mod Stored
 pub mod Reasons
 pub mod Writers

@@ -1,4 +1,4 @@
--- Any log in parts can be fed: from a pool that creation has answered 0 for and any carry of 905 bytes, with any feed that keeps its promise
+-- Any log in parts can be fed: from a pool that creation has answered 0 for and any carry of 13,835 bytes, with any feed that keeps its promise
 -- (`some-feeding`). So nothing that is said of such runs is said of none. And the promise can be kept wherever meld's can (`some-feed`).
 -- The idea: the carry may be and the pool is fit after each call, so neither 8 nor 7 is said; then a call takes a byte (`gets-on`) or says
 -- how the log ends, and with nothing left it says so (`over-ends`).

@@ -1,5 +1,6 @@
 -- Torn or impossible, on bytes: cut a log that leads to "end" anywhere, and 11 is never said, neither by a card that walks it (`cut-never-11`) nor to
--- one that is fed it in parts (`fed-never-11`); and such a log has the verdicts that it had before the two were told apart (`verdicts-as-before`).
+-- one that is fed it in parts (`fed-never-11`); and over a log that led to "end" by the rule of
+-- before a card answers by the rules, part for part (`verdicts-as-before`; Stored.antt says of which they are the answers of then).
 -- Assumes nothing.
 use Prim.Native.Nat.{ℕ}
 use mathlib.Core.Path.{_≡_, refl, sym, ap, subst, _∙_}

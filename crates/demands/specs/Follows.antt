@@ -28,8 +28,8 @@ pub record FollowsWhole (N Z : ℕ) (log : List ℕ) (xs : List Melded) (last : 
   pub answers : xs ≡ verdicts (fresh N Z) parts
   pub means : Means m (after (fresh N Z) (map parse parts))
 
--- R14: over a log that led to "end" when a torn log and an impossible length were not told apart, and handed out these parts then: it leads to
--- "end", for each part stands the rules' answer with its looks, and the pool is the image of the rules' state after all of them
+-- R14: over a log that led to "end" by the rule of before (`EndedBefore`), and handed out these parts then: it leads to "end", for each part stands
+-- the rules' answer with its looks, and the pool is the image of the rules' state after all of them
 pub record AsBefore (N Z : ℕ) (parts : List (List ℕ)) (xs : List Melded) (last : Cut) (m : List ℕ) : Type 0 where
   pub ends : last ≡ End
   pub answers : xs ≡ verdicts (fresh N Z) parts

@@ -1,5 +1,6 @@
 pub mod Runs
 pub mod Follows
+pub mod Before
 pub mod Chains
 pub mod Touches
 pub mod Fakes

@@ -26,7 +26,7 @@ const MOST_KEYS: u32 = 65536;
 const POOL: usize = 4194369;
 
 // The bytes of the largest record and one more.
-const RECORD: usize = 906;
+const RECORD: usize = 13836;
 
 // Asks for the record that so many records stand before, with bytes for a pool that are enough for the largest N.
 fn ask_log(log: i32, pool: &mut [u8], window: &mut [u8], before: u32) -> Told

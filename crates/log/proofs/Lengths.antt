@@ -13,11 +13,11 @@ use Rattle.log.specs.Log.{minLength, maxLength, impossible}
 
 -- below the least
 pub too-short : (n : ℕ) → n < 7 → true ≡ impossible n
-too-short n h = sym (ap (λ (b : Bool). b || ltb 903 n) (lt-ltb n 7 h))
+too-short n h = sym (ap (λ (b : Bool). b || ltb 13833 n) (lt-ltb n 7 h))
 
 -- else only one above the largest is none
-pub not-short : (n : ℕ) → 7 ≤ n → ltb 903 n ≡ impossible n
-not-short n h = sym (ap (λ (b : Bool). b || ltb 903 n) (le-ltb n 7 h))
+pub not-short : (n : ℕ) → 7 ≤ n → ltb 13833 n ≡ impossible n
+not-short n h = sym (ap (λ (b : Bool). b || ltb 13833 n) (le-ltb n 7 h))
 
 -- WHAT IT TELLS
 

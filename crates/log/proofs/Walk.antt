@@ -83,8 +83,8 @@ walks-sized (tears e) = no-part
 walks-sized (cannot-be e) = no-part
 walks-sized {log = log} {place = place} (hands {next = next} e w) = one-more (sized-at log place next (record-tells log place next e)) (walks-sized w)
 
--- R8: 9 to 905 bytes
-pub sized-range : {part : List ℕ} → PartSized part → (9 ≤ length part) × (length part ≤ 905)
+-- R8: 9 to 13,835 bytes
+pub sized-range : {part : List ℕ} → PartSized part → (9 ≤ length part) × (length part ≤ 13835)
 sized-range s = (omega (arith, s .size, s .least), omega (arith, s .size, s .most))
 
 -- THE PARTS ARE THE LOG

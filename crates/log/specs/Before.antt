@@ -1,6 +1,7 @@
--- The log rule as it was until a torn log and an impossible length were told apart (R14): one answer, 10, for both.
+-- The log rule as it was until there was version 2 (R54): a length could be 7 to 903. What was no record and not the end is one case here: once it
+-- was 10 whatever it was, then 10 or 11 as today (R14).
 -- Assumes nothing: these are definitions.
-use Prim.Native.Nat.{ℕ, _+_, _-_}
+use Prim.Native.Nat.{ℕ, _+_, _-_, _≤_}
 use mathlib.Core.Path.{_≡_}
 use mathlib.Core.Bool.{Bool, _||_}
 use mathlib.Core.List.{List, [], _∷_}
@@ -15,12 +16,12 @@ use Rattle.log.specs.Log.{lengthAt, pastAt, endsAt}
 pub data CutBefore : Type 0 where
   -- the place was exactly the log's end
   ended : CutBefore
-  -- 10
+  -- 10 or 11
   broken : CutBefore
   -- a record, and the place past it
   whole : ℕ → CutBefore
 
--- R14 as it was, the row of 10, said of a place that is not exactly at the end: past it, fewer than two bytes left, a length below 7 or above 903, a
+-- R14 as it was, the rows of 10 and 11, said of a place that is not exactly at the end: past it, fewer than two bytes left, a length below 7 or above 903, a
 -- record that runs past the end
 abbrev pub brokenBefore : List ℕ → ℕ → Bool
 brokenBefore log place =
@@ -46,3 +47,8 @@ pub data EndedBefore (log : List ℕ) : ℕ → List (List ℕ) → Type 0 where
   ends : {place : ℕ} → cutBefore log place ≡ ended → EndedBefore log place []
   hands : {place next : ℕ} {parts : List (List ℕ)} → cutBefore log place ≡ whole next → EndedBefore log next parts
       → EndedBefore log place (take (next - place) (drop place log) ∷ parts)
+
+-- R8 as it was: each of these parts has 905 bytes at the most
+abbrev pub SmallBefore : List (List ℕ) → Type 0
+SmallBefore [] = Unit
+SmallBefore (part ∷ parts) = (length part ≤ 905) × SmallBefore parts

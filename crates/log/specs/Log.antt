@@ -21,7 +21,7 @@ minLength = 7
 
 -- R14: the largest
 abbrev pub maxLength : ℕ
-maxLength = 903
+maxLength = 13833
 
 -- R4: the length that the two bytes at a place say
 abbrev pub lengthAt : List ℕ → ℕ → ℕ
@@ -47,7 +47,7 @@ impossible n = ltb n minLength || ltb maxLength n
 abbrev pub runsPast : List ℕ → ℕ → Bool
 runsPast log place = ltb (length log) (pastAt log place)
 
--- a whole record stands at the place, and next is the place past it (R14): its length is from 7 to 903, and it does not run past the end
+-- a whole record stands at the place, and next is the place past it (R14): its length is from 7 to 13,833, and it does not run past the end
 pub record RecordAt (log : List ℕ) (place next : ℕ) : Type 0 where
   pub least : minLength ≤ lengthAt log place
   pub most : lengthAt log place ≤ maxLength

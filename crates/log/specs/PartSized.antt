@@ -6,7 +6,7 @@ use mathlib.Core.List.{List, [], _∷_}
 use lib.ListN.{length}
 use Rattle.log.specs.Log.{lengthAt, minLength, maxLength}
 
--- a part as the log rule hands it out: as many bytes as its length says and the two of the length itself, the length from 7 to 903
+-- a part as the log rule hands it out: as many bytes as its length says and the two of the length itself, the length from 7 to 13,833
 pub record PartSized (part : List ℕ) : Type 0 where
   pub size : length part ≡ lengthAt part 0 + 2
   pub least : minLength ≤ lengthAt part 0

@@ -1,4 +1,4 @@
--- What `read` leaves in lists of 64 and 8: nothing can be too short, so it is a refusal of malformed bytes or the record's own lists.
+-- What `read` leaves in lists that have room for the record: a refusal of malformed bytes, or the record's own lists at their fronts.
 -- Assumes nothing.
 use Prim.Native.Nat.{ℕ, _+_, _≤_, _<_}
 use mathlib.Core.Path.{_≡_, refl, sym, ap, _∙_, subst}
@@ -9,13 +9,14 @@ use native.Mathlib.Omega.{arith}
 use lib.ListN.{length, take, drop, length-map}
 use lib.Seq.{take-at, length-take-le}
 use lib.Dec.{leb}
-use borrow.Author.Tests.{le-leb}
+use borrow.Author.Tests.{leb-true}
 use Rattle.words.specs.Word.{Bytes}
 use Rattle.record.specs.declared.answer.Answer.{Answer}
 use Rattle.record.specs.declared.reader.Reading.{Reading}
 use Rattle.record.specs.Record.{Rec, Valid, kindOf, keyOf, payloadOf}
 use Rattle.record.specs.Parse.{parse}
-use Rattle.record.specs.Reader.{Lists, lists, ReadOutcome, readOutcome, front, roomy, filled, readOf, lowOf, highOf}
+use Rattle.record.specs.Reader.{Lists, lists, ReadOutcome, readOutcome, front, roomy, RoomFor, filled, readOf, lowOf, highOf}
+use Rattle.record.proofs.Cases.{and-split}
 use Rattle.record.proofs.RoundTrip.{bytesOf-parse}
 use Rattle.meld.specs.Lists.{Names}
 
@@ -23,14 +24,21 @@ use Rattle.meld.specs.Lists.{Names}
 front-take : {A : Type 0} (f : A → ℕ) (xs : List A) (l l′ : List ℕ) (n : ℕ) → l′ ≡ front (map f xs) l → n ≡ length xs → take n l′ ≡ map f xs
 front-take f xs l l′ n e h = rw e (take-at (map f xs) (drop (length (map f xs)) l) n (length-map xs f ∙ sym h))
 
-module _ (bs K E P L H K′ E′ P′ L′ H′ : List ℕ) (bytes : Bytes bs) (lk : length K ≡ 64) (le : length E ≡ 64) (lp : length P ≡ 64) (ll : length L ≡ 8) (lh : length H ≡ 8)
-    (d : Reading) (e : readOutcome d (lists K′ E′ P′ L′ H′) ≡ readOf (parse bs) (lists K E P L H)) where
-  room : (r : Rec) → Valid r → roomy r (lists K E P L H) ≡ true
-  room r v =
-      let p = v .few-points in
-      let c = v .few-scans in
-      rw (le-leb (length (r .points)) (length K) (omega arith), le-leb (length (r .points)) (length E) (omega arith), le-leb (length (r .points)) (length P) (omega arith), le-leb (length (r .scans)) (length L) (omega arith), le-leb (length (r .scans)) (length H) (omega arith))
+-- a record that lists have room for
+record Inside (r : Rec) (l : Lists) : Type 0 where
+  kinds : length (r .points) ≤ length (l .kinds)
+  keys : length (r .points) ≤ length (l .keys)
+  payloads : length (r .points) ≤ length (l .payloads)
+  lows : length (r .scans) ≤ length (l .lows)
+  highs : length (r .scans) ≤ length (l .highs)
 
+inside : (r : Rec) (l : Lists) → roomy r l ≡ true → Inside r l
+inside r l e =
+    and-split _ _ e λ a b. and-split _ _ b λ c d. and-split _ _ d λ f g. and-split _ _ g λ h i.
+    record { kinds = leb-true _ _ a; keys = leb-true _ _ c; payloads = leb-true _ _ f; lows = leb-true _ _ h; highs = leb-true _ _ i }
+
+module _ (bs K E P L H K′ E′ P′ L′ H′ : List ℕ) (bytes : Bytes bs) (room : RoomFor bs (lists K E P L H))
+    (d : Reading) (e : readOutcome d (lists K′ E′ P′ L′ H′) ≡ readOf (parse bs) (lists K E P L H)) where
   -- what is read where the bytes are a record
   record Filled (r : Rec) : Type 0 where
     valid : Valid r
@@ -41,7 +49,7 @@ module _ (bs K E P L H K′ E′ P′ L′ H′ : List ℕ) (bytes : Bytes bs) (
   unfolding readOf
   is-filled r q =
       let v = bytesOf-parse bs r bytes q .0 in
-      let x : readOutcome d (lists K′ E′ P′ L′ H′) ≡ readOutcome (record { answer = record { number = 0 }; snapshot = r .snapshot; points = length (r .points); scans = length (r .scans) }) (filled r (lists K E P L H)) = rw (q, room r v) at e in
+      let x : readOutcome d (lists K′ E′ P′ L′ H′) ≡ readOutcome (record { answer = record { number = 0 }; snapshot = r .snapshot; points = length (r .points); scans = length (r .scans) }) (filled r (lists K E P L H)) = rw (q, room r q) at e in
       record { valid = v; reading-is = ap (λ (o : ReadOutcome). o .reading) x; lists-are = ap (λ (o : ReadOutcome). o .left) x }
 
   pub read-none : (d .answer .number ≡ 0 → ⊥) → parse bs ≡ none
@@ -56,8 +64,11 @@ module _ (bs K E P L H K′ E′ P′ L′ H′ : List ℕ) (bytes : Bytes bs) (
     pub r : Rec
     pub is : parse bs ≡ some r
     pub names : Names (d .snapshot) (take (d .points) K′) (take (d .points) E′) (take (d .points) P′) (take (d .scans) L′) (take (d .scans) H′) r
-    pub points-few : d .points ≤ 64
-    pub scans-few : d .scans ≤ 8
+    pub kinds-inside : d .points ≤ length K
+    pub keys-inside : d .points ≤ length E
+    pub payloads-inside : d .points ≤ length P
+    pub lows-inside : d .scans ≤ length L
+    pub highs-inside : d .scans ≤ length H
 
   pub read-some : d .answer .number ≡ 0 → Got
   unfolding readOf
@@ -70,6 +81,7 @@ module _ (bs K E P L H K′ E′ P′ L′ H′ : List ℕ) (bytes : Bytes bs) (
       go none q = absurd (not-malformed d (ap (λ (o : ReadOutcome). o .reading .answer .number) (rw q at e)) h)
       go (some r) q =
           let f = is-filled r q in
+          let i = inside r (lists K E P L H) (room r q) in
           let n : d .points ≡ length (r .points) = ap (λ (x : Reading). x .points) (f .reading-is) in
           let k : d .scans ≡ length (r .scans) = ap (λ (x : Reading). x .scans) (f .reading-is) in
           record {
@@ -84,6 +96,9 @@ module _ (bs K E P L H K′ E′ P′ L′ H′ : List ℕ) (bytes : Bytes bs) (
               lows-are = front-take lowOf (r .scans) L L′ (d .scans) (ap (λ (x : Lists). x .lows) (f .lists-are)) k;
               highs-are = front-take highOf (r .scans) H H′ (d .scans) (ap (λ (x : Lists). x .highs) (f .lists-are)) k;
             };
-            points-few = omega (arith, f .valid .few-points);
-            scans-few = omega (arith, f .valid .few-scans);
+            kinds-inside = omega (arith, i .kinds, n);
+            keys-inside = omega (arith, i .keys, n);
+            payloads-inside = omega (arith, i .payloads, n);
+            lows-inside = omega (arith, i .lows, k);
+            highs-inside = omega (arith, i .highs, k);
           }

@@ -33,7 +33,7 @@ length-front vs l h = omega (arith, length-append vs (drop (length vs) l), lengt
 
 -- A CARRY THAT MAY BE
 
--- R48: 905 bytes, and what is carried may be
+-- R48: 13,835 bytes, and what is carried may be
 pub record Such (carry : List ℕ) (carried : ℕ) : Type 0 where
   pub sized : length carry ≡ carrySize
   pub may : mayCarry carry carried ≡ true

@@ -35,26 +35,26 @@ module _ (carry : List ℕ) (carried : ℕ) where
   abbrev pub allowed : Bool
   allowed = eqb (length carry) carrySize && mayCarry carry carried
 
-  pub other-size : (length carry ≡ 905 → ⊥) → false ≡ allowed
-  other-size n = sym (ap (λ (b : Bool). b && mayCarry carry carried) (ne-eqb (length carry) 905 n))
+  pub other-size : (length carry ≡ 13835 → ⊥) → false ≡ allowed
+  other-size n = sym (ap (λ (b : Bool). b && mayCarry carry carried) (ne-eqb (length carry) 13835 n))
 
-  right-size : length carry ≡ 905 → mayCarry carry carried ≡ allowed
-  right-size e = sym (ap (λ (b : Bool). b && mayCarry carry carried) (eq-eqb (length carry) 905 e))
+  right-size : length carry ≡ 13835 → mayCarry carry carried ≡ allowed
+  right-size e = sym (ap (λ (b : Bool). b && mayCarry carry carried) (eq-eqb (length carry) 13835 e))
 
   -- where it has two bytes or more
   abbrev beyond : Bool → Bool
   beyond b = if b then eqb carried 2 else ltb carried (pastAt carry 0)
 
-  pub under-two : length carry ≡ 905 → carried < 2 → true ≡ allowed
+  pub under-two : length carry ≡ 13835 → carried < 2 → true ≡ allowed
   under-two e h = sym (ap (λ (b : Bool). b || beyond (impossible (lengthAt carry 0))) (lt-ltb carried 2 h)) ∙ right-size e
 
-  two-up : length carry ≡ 905 → 2 ≤ carried → beyond (impossible (lengthAt carry 0)) ≡ allowed
+  two-up : length carry ≡ 13835 → 2 ≤ carried → beyond (impossible (lengthAt carry 0)) ≡ allowed
   two-up e h = sym (ap (λ (b : Bool). b || beyond (impossible (lengthAt carry 0))) (le-ltb carried 2 h)) ∙ right-size e
 
-  pub length-stuck : length carry ≡ 905 → 2 ≤ carried → (w : ℕ) → w ≡ word 2 carry 0 → (b : Bool) → b ≡ impossible w → b ≡ true → eqb carried 2 ≡ allowed
+  pub length-stuck : length carry ≡ 13835 → 2 ≤ carried → (w : ℕ) → w ≡ word 2 carry 0 → (b : Bool) → b ≡ impossible w → b ≡ true → eqb carried 2 ≡ allowed
   length-stuck e h w q b i t = ap beyond (sym t ∙ i ∙ ap impossible q) ∙ two-up e h
 
-  pub length-open : length carry ≡ 905 → 2 ≤ carried → (w : ℕ) → w ≡ word 2 carry 0 → (b : Bool) → b ≡ impossible w → b ≡ false → ltb carried (2 + w) ≡ allowed
+  pub length-open : length carry ≡ 13835 → 2 ≤ carried → (w : ℕ) → w ≡ word 2 carry 0 → (b : Bool) → b ≡ impossible w → b ≡ false → ltb carried (2 + w) ≡ allowed
   length-open e h w q b i t =
       let p : 2 + w ≡ pastAt carry 0 = omega arith in
       ap (ltb carried) p ∙ ap beyond (sym t ∙ i ∙ ap impossible q) ∙ two-up e h

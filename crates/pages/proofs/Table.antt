@@ -185,7 +185,7 @@ module _ (carry : List ℕ) (carried : ℕ) (part : List ℕ) (over : Bool) wher
               two h = ⊎-elim (λ x. no-both (x .0) (ap impossible (sym (said-in such part h)) ∙ can-be))
                   (λ x. omega (arith, x .1, said-in such part h, sized-size)) (may-tells carry carried (such .may) h)
 
-          sized-most : size ≤ 905
+          sized-most : size ≤ 13835
           sized-most = omega (arith, possible-tells (lengthAt bytes 0) can-be .1, sized-size)
 
           pub sized-room : length part < size - carried → carried + length part ≤ length carry

@@ -100,7 +100,7 @@ fn decide(pool: &mut [u8], carry: &mut [u8], carried: usize, part: &[u8], size: 
     verdict(meld_fit(pool, &carry[..size]), new)
 }
 
-// Takes the next part of a log, of any length, and decides one record at most: as soon as its last byte is in. The carry has 905 bytes, and so
+// Takes the next part of a log, of any length, and decides one record at most: as soon as its last byte is in. The carry has 13,835 bytes, and so
 // many at its front are those of a record that is not whole yet: 0 at first, then what the call before gave back. `over` says that the log
 // ends with this part. Any bytes and numbers may be lent (R47).
 pub fn feed(pool: &mut [u8], carry: &mut [u8], carried: usize, part: &[u8], over: bool) -> Fed

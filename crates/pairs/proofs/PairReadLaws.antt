@@ -1,5 +1,5 @@
 -- From two lists to pairs: what is stored pair by pair is what the core read into the two lists, and a list of pairs is fixed by
--- its lows and its highs. A record has at most 8 scans, so room for 8 is as good as room for more.
+-- its lows and its highs. A record has at most 64 scans, so room for 64 is as good as room for more.
 -- Assumes nothing.
 use mathlib.Core.Path.{_≡_, refl, sym, ap, _∙_}
 use Prim.Native.Nat.{ℕ, zero, suc, _+_, _-_, _≤_, _<_}
@@ -15,18 +15,17 @@ use lib.Seq.{take-append-seam, length-take-le}
 use borrow.Author.Tests.{lt-ltb, le-ltb, le-leb, leb-true}
 use Rattle.record.specs.declared.point.Scan.{Scan}
 use Rattle.record.specs.declared.reader.Reading.{Reading}
-use Rattle.words.specs.Word.{word}
-use Rattle.record.specs.Record.{Rec, version, maxPoints, maxScans}
-use Rattle.record.specs.Parse.{pointCount, scanCount, headOk, parse, checkOf}
+use Rattle.record.specs.Record.{Rec}
+use Rattle.record.specs.Parse.{scanCount, parse}
 use Rattle.record.specs.declared.answer.Answer.{Answer}
 use Rattle.record.specs.Answer.{committed, malformed, outputShort}
 use Rattle.record.specs.Reader.{ReadOutcome, lists, lowOf, highOf, front, roomy, readRefused, filled, readOutcome, readOf}
 use Rattle.record.proofs.Cases.{by-case, and-split, no-some}
 use Rattle.record.proofs.Lengths.{scans-length}
-use Rattle.record.proofs.WellFormed.{good}
+use Rattle.record.proofs.WellFormed.{parsed-good}
 use Rattle.pairs.specs.declared.halves.Halves.{Halves}
 use Rattle.pairs.specs.declared.reader.Found.{Found}
-use Rattle.pairs.specs.Pairs.{atMost8}
+use Rattle.pairs.specs.Pairs.{atMost64}
 use Rattle.pairs.proofs.PairLaws.{least-bounds}
 use Rattle.pairs.specs.PairReader.{PairsRead, HalvesRead, scanOf, storedFirst}
 
@@ -115,34 +114,30 @@ abbrev scansOf : Option Rec → List Scan
 scansOf none = []
 scansOf (some r) = r .scans
 
--- a well-formed record has at most 8 scans
-few-scans : (bs : List ℕ) (r : Rec) → parse bs ≡ some r → length (r .scans) ≤ 8
-unfolding parse
+-- a well-formed record has at most 64 scans
+few-scans : (bs : List ℕ) (r : Rec) → parse bs ≡ some r → length (r .scans) ≤ 64
 few-scans bs r e =
-    let g = good bs committed (ap checkOf (sym e)) refl in
-    let are : length (r .scans) ≡ getD bs 8 0 = ap (λ (o : Option Rec). length (scansOf o)) (sym e ∙ g .is) ∙ scans-length (getD bs 8 0) 0 bs _ (g .scans-took) in
-    by-case (headOk bs)
-    (λ k. let few : getD bs 8 0 ≤ 8 = leb-true _ _
-    (last-two (leb 9 (length bs)) (eqb (word 2 bs 0 + 2) (length bs)) (eqb (getD bs 2 0) version) (leb (pointCount bs) maxPoints) (leb (scanCount bs) maxScans) k .1) in omega (arith, are, few))
-    (λ k. let nothing : parse bs ≡ none = simp k in no-some (sym nothing ∙ e))
+    let g = parsed-good bs r e in
+    let are : length (r .scans) ≡ scanCount bs = ap (λ (o : Option Rec). length (scansOf o)) (sym e ∙ g .is) ∙ scans-length (scanCount bs) 0 bs _ (g .scans-took) in
+    omega (arith, are, g .right .few-scans)
 
--- for at most 8 there is room in at most 8 exactly if there is room
-same-room : (n k : ℕ) → n ≤ 8 → leb n (atMost8 k) ≡ leb n k
+-- for at most 64 there is room in at most 64 exactly if there is room
+same-room : (n k : ℕ) → n ≤ 64 → leb n (atMost64 k) ≡ leb n k
 same-room n k few = ⊎-elim
-    (λ z. let in-8 : k ≤ 8 = omega (arith, z) in simp (le-ltb _ _ in-8))
-    (λ p. let over-8 : 8 < k = omega (arith, p) in let fits : n ≤ k = omega (arith, few, over-8) in simp (lt-ltb _ _ over-8, le-leb _ _ few, le-leb _ _ fits))
-    (eq-zero-or-pos (k - 8))
+    (λ z. let in-64 : k ≤ 64 = omega (arith, z) in simp (le-ltb _ _ in-64))
+    (λ p. let over-64 : 64 < k = omega (arith, p) in let fits : n ≤ k = omega (arith, few, over-64) in simp (lt-ltb _ _ over-64, le-leb _ _ few, le-leb _ _ fits))
+    (eq-zero-or-pos (k - 64))
 
 module _ (bytes ks es xs : List ℕ) (cs : List Scan) (f : Found) (ks′ es′ xs′ : List ℕ) (said : HalvesRead bytes ks es xs (length cs) f ks′ es′ xs′) where
   -- what the core's answer means of the pairs: as many as were found have room in the list, and stored there they are what is promised
   pub record Meant : Type 0 where
-    pub few : f .reading .scans ≤ 8
+    pub few : f .reading .scans ≤ 64
     pub within : f .reading .scans ≤ length cs
     pub read : PairsRead bytes ks es xs cs (f .reading) ks′ es′ xs′ (storedFirst (f .reading .scans) (f .halves) cs)
 
   -- what the two lists begin as
   abbrev zeros : List ℕ
-  zeros = replicate (atMost8 (length cs)) 0
+  zeros = replicate (atMost64 (length cs)) 0
 
   -- on a refusal no scan was found
   refused : (a : Answer) → readOf (parse bytes) (lists ks es xs zeros zeros) ≡ readOutcome (readRefused a) (lists ks es xs zeros zeros)
@@ -168,7 +163,7 @@ module _ (bytes ks es xs : List ℕ) (cs : List Scan) (f : Found) (ks′ es′ x
     same-roomy = λ j. leb (length (r .points)) (length ks) && (leb (length (r .points)) (length es) && (leb (length (r .points)) (length xs) && (side lowOf j && side highOf j)))
       where
         side : (g : Scan → ℕ) → leb (length (r .scans)) (length (map g cs)) ≡ leb (length (r .scans)) (length zeros)
-        side g = ap (leb (length (r .scans))) (length-map cs g) ∙ sym (same-room (length (r .scans)) (length cs) (few-scans bytes r is)) ∙ ap (leb (length (r .scans))) (sym (length-replicate (atMost8 (length cs)) 0))
+        side g = ap (leb (length (r .scans))) (length-map cs g) ∙ sym (same-room (length (r .scans)) (length cs) (few-scans bytes r is)) ∙ ap (leb (length (r .scans))) (sym (length-replicate (atMost64 (length cs)) 0))
 
     -- otherwise the scans were found, and there is room for them
     filled-in : roomy r (lists ks es xs zeros zeros) ≡ true → Meant
@@ -180,15 +175,15 @@ module _ (bytes ks es xs : List ℕ) (cs : List Scan) (f : Found) (ks′ es′ x
         let e = said ∙ was in
         let reading : f .reading ≡ taken r = ap (λ (o : ReadOutcome). o .reading) e in
         let found : f .reading .scans ≡ length (r .scans) = ap (λ (y : Reading). y .scans) reading in
-        let fits : length (r .scans) ≤ atMost8 (length cs) =
+        let fits : length (r .scans) ≤ atMost64 (length cs) =
         let l : length (r .scans) ≤ length zeros = leb-true _ _
         (last-two (leb (length (r .points)) (length ks)) (leb (length (r .points)) (length es)) (leb (length (r .points)) (length xs))
         (leb (length (r .scans)) (length zeros)) (leb (length (r .scans)) (length zeros)) room .1) in
-        omega (arith, l, length-replicate {A = ℕ} (atMost8 (length cs)) 0) in
-        let bounds = least-bounds (length cs) (atMost8 (length cs)) refl in
+        omega (arith, l, length-replicate {A = ℕ} (atMost64 (length cs)) 0) in
+        let bounds = least-bounds (length cs) (atMost64 (length cs)) refl in
         let within : length (r .scans) ≤ length cs = omega (arith, fits, bounds .1) in
-        let lows = filled-side lowOf (f .halves) (f .halves .lows) zeros cs (r .scans) (atMost8 (length cs)) (λ i. refl) fits within (ap (λ (o : ReadOutcome). o .left .lows) e) in
-        let highs = filled-side highOf (f .halves) (f .halves .highs) zeros cs (r .scans) (atMost8 (length cs)) (λ i. refl) fits within (ap (λ (o : ReadOutcome). o .left .highs) e) in
+        let lows = filled-side lowOf (f .halves) (f .halves .lows) zeros cs (r .scans) (atMost64 (length cs)) (λ i. refl) fits within (ap (λ (o : ReadOutcome). o .left .lows) e) in
+        let highs = filled-side highOf (f .halves) (f .halves .highs) zeros cs (r .scans) (atMost64 (length cs)) (λ i. refl) fits within (ap (λ (o : ReadOutcome). o .left .highs) e) in
         record {
           few = omega (arith, found, few-scans bytes r is);
           within = omega (arith, found, within);
@@ -211,25 +206,25 @@ module _ (bytes ks es xs : List ℕ) (cs : List Scan) (f : Found) (ks′ es′ x
       by-parse (some r) e = by-case (roomy r (lists ks es xs zeros zeros)) (filled-in r e) (short r e)
 
 -- the zeros that the two arrays begin with
-abbrev eight : List ℕ
-eight = replicate 8 0
+abbrev zeros64 : List ℕ
+zeros64 = replicate 64 0
 
 -- zeros that are lent, and come back as the core leaves them
-pub halves-back : (bytes ks es xs : List ℕ) (count m : ℕ) (r : Reading) (ks′ es′ xs′ ls hs : List ℕ) → m ≡ atMost8 count
-    → length ls ≡ length (take m eight) → length hs ≡ length (take m eight)
-    → readOutcome r (lists ks′ es′ xs′ ls hs) ≡ readOf (parse bytes) (lists ks es xs (take m eight) (take m eight))
-    → HalvesRead bytes ks es xs count (record { reading = r; halves = record { lows = ls ++ drop m eight; highs = hs ++ drop m eight } }) ks′ es′ xs′
+pub halves-back : (bytes ks es xs : List ℕ) (count m : ℕ) (r : Reading) (ks′ es′ xs′ ls hs : List ℕ) → m ≡ atMost64 count
+    → length ls ≡ length (take m zeros64) → length hs ≡ length (take m zeros64)
+    → readOutcome r (lists ks′ es′ xs′ ls hs) ≡ readOf (parse bytes) (lists ks es xs (take m zeros64) (take m zeros64))
+    → HalvesRead bytes ks es xs count (record { reading = r; halves = record { lows = ls ++ drop m zeros64; highs = hs ++ drop m zeros64 } }) ks′ es′ xs′
 halves-back bytes ks es xs count m r ks′ es′ xs′ ls hs is l h said =
     (λ j. readOutcome r (lists ks′ es′ xs′ (back ls l j) (back hs h j))) ∙ said
     ∙ (λ j. readOf (parse bytes) (lists ks es xs (zeros-are j) (zeros-are j)))
   where
-    back : (vs : List ℕ) → length vs ≡ length (take m eight) → take (atMost8 count) (vs ++ drop m eight) ≡ vs
-    back vs e = ap (λ (n : ℕ). take n (vs ++ drop m eight)) (sym is ∙ sym (e ∙ length-take-le m eight (least-bounds count m is .0))) ∙ take-append-seam vs (drop m eight)
+    back : (vs : List ℕ) → length vs ≡ length (take m zeros64) → take (atMost64 count) (vs ++ drop m zeros64) ≡ vs
+    back vs e = ap (λ (n : ℕ). take n (vs ++ drop m zeros64)) (sym is ∙ sym (e ∙ length-take-le m zeros64 (least-bounds count m is .0))) ∙ take-append-seam vs (drop m zeros64)
 
     take-zeros : (k n : ℕ) → k ≤ n → take {A = ℕ} k (replicate n 0) ≡ replicate k 0
     take-zeros zero n a = refl
     take-zeros (suc k) zero a = absurd (omega arith)
     take-zeros (suc k) (suc n) a = ap (λ (v : List ℕ). 0 ∷ v) (take-zeros k n (omega arith))
 
-    zeros-are : take m eight ≡ replicate (atMost8 count) 0
-    zeros-are = take-zeros m 8 (least-bounds count m is .0) ∙ ap (λ (n : ℕ). replicate n 0) is
+    zeros-are : take m zeros64 ≡ replicate (atMost64 count) 0
+    zeros-are = take-zeros m 64 (least-bounds count m is .0) ∙ ap (λ (n : ℕ). replicate n 0) is

@@ -16,9 +16,9 @@ use Rattle.pairs.specs.declared.halves.Halves.{Halves}
 abbrev pub noScan : Scan
 noScan = record { low = 0; high = 0 }
 
--- the count itself, and 8 where it is more
-abbrev pub atMost8 : ℕ → ℕ
-atMost8 count = if ltb 8 count then 8 else count
+-- the count itself, and 64 where it is more
+abbrev pub atMost64 : ℕ → ℕ
+atMost64 count = if ltb 64 count then 64 else count
 
 -- the first n of a list of numbers, and 0 behind its last
 unfoldable pub padded : ℕ → List ℕ → List ℕ
@@ -27,19 +27,19 @@ padded (suc n) [] = 0 ∷ padded n []
 padded (suc n) (x ∷ xs) = x ∷ padded n xs
 
 abbrev pub noneYet : Halves
-noneYet = record { lows = replicate 8 0; highs = replicate 8 0 }
+noneYet = record { lows = replicate 64 0; highs = replicate 64 0 }
 
 abbrev pub stored : Halves → ℕ → Scan → Halves
 stored s i c = record { lows = set (s .lows) i (c .low); highs = set (s .highs) i (c .high) }
 
 -- the first count of the pairs, split
 abbrev pub halvesOf : ℕ → List Scan → Halves
-halvesOf count cs = record { lows = padded 8 (map lowOf (take count cs)); highs = padded 8 (map highOf (take count cs)) }
+halvesOf count cs = record { lows = padded 64 (map lowOf (take count cs)); highs = padded 64 (map highOf (take count cs)) }
 
--- what is written with the first count of the lows and highs: nothing of more than 8
+-- what is written with the first count of the lows and highs: nothing of more than 64
 abbrev pub writeHalves : ℕ → List ℕ → List ℕ → List ℕ → ℕ → Halves → List ℕ → WriteOutcome
 writeHalves snapshot kinds keys payloads count s output =
-    if ltb 8 count then writeOutcome (writeRefused malformed) output else
+    if ltb 64 count then writeOutcome (writeRefused malformed) output else
     writeOf (recordOf snapshot (lists kinds keys payloads (take count (s .lows)) (take count (s .highs)))) output
 
 -- R10: what `write_pairs` promises: the writer's promise, of the lows and the highs of the pairs

@@ -1,20 +1,20 @@
-// Low and high pairs, split into two lists of at most 8 numbers.
+// Low and high pairs, split into two lists of at most 64 numbers.
 use record::Scan;
 use record::limits::MAX_SCANS;
 ghost use mathlib.Core.Path.{_≡_};
 ghost use Prim.Native.Nat.{_<_, _≤_};
 ghost use lib.ListN.{length, getD};
-ghost use Rattle.pairs.specs.Pairs.{noScan, atMost8, noneYet, stored, halvesOf};
+ghost use Rattle.pairs.specs.Pairs.{noScan, atMost64, noneYet, stored, halvesOf};
 
-// The lows and the highs of up to 8 scans, from the front; 0 behind the last.
+// The lows and the highs of up to 64 scans, from the front; 0 behind the last.
 pub struct Halves {
-    pub lows: [u32; 8],
-    pub highs: [u32; 8],
+    pub lows: [u32; 64],
+    pub highs: [u32; 64],
 }
 
-// The count itself, and 8 where it is more.
+// The count itself, and 64 where it is more.
 pub fn least(count: usize) -> usize
-    ensures { λ r. ⌜ r ≡ atMost8 count ⌝ }
+    ensures { λ r. ⌜ r ≡ atMost64 count ⌝ }
 {
     if MAX_SCANS < count { MAX_SCANS } else { count }
 }
@@ -24,14 +24,14 @@ fn none_yet() -> Halves
     ensures { λ r. ⌜ r ≡ noneYet ⌝ }
 {
     Halves {
-        lows: [0; 8],
-        highs: [0; 8],
+        lows: [0; 64],
+        highs: [0; 64],
     }
 }
 
 // The scan stored at a place of both lists.
 fn with(halves: Halves, i: usize, scan: Scan) -> Halves
-    requires { ⌜ i < 8 ⌝ }
+    requires { ⌜ i < 64 ⌝ }
     ensures { λ r. ⌜ r ≡ stored halves i scan ⌝ }
 {
     let mut lows = halves.lows;
@@ -51,7 +51,7 @@ fn scan_at(scans: &[Scan], i: usize) -> Scan
 
 // The first `count` of the pairs, split.
 pub fn halves_of(scans: &[Scan], count: usize) -> Halves
-    requires { ⌜ (count ≤ 8) × (count ≤ length (now scans)) ⌝ }
+    requires { ⌜ (count ≤ 64) × (count ≤ length (now scans)) ⌝ }
     ensures { λ r. ⌜ r ≡ halvesOf count (now (scans .entry)) ⌝ }
 {
     let mut found = none_yet();

@@ -17,7 +17,7 @@ ghost use lib.ListN.{length};
 ghost use Rattle.writer.specs.Writer.{writeOutcome};
 ghost use Rattle.pairs.specs.Pairs.{writeHalves, PairsWritten, OneWritten};
 
-// Writes with the first `count` of the lows and highs; more than 8 scans are refused with 4, as the core does.
+// Writes with the first `count` of the lows and highs; more than 64 scans are refused with 4, as the core does.
 fn write_halves(
     snapshot: u32,
     kinds: &[u8],
@@ -27,7 +27,7 @@ fn write_halves(
     halves: Halves,
     output: &mut [u8],
 ) -> Written
-    requires { ⌜ (length (halves .lows) ≡ 8) × (length (halves .highs) ≡ 8) ⌝ }
+    requires { ⌜ (length (halves .lows) ≡ 64) × (length (halves .highs) ≡ 64) ⌝ }
     ensures { λ r. ⌜ writeOutcome r (now (output .exit))
         ≡ writeHalves snapshot (now (kinds .entry)) (now (keys .entry)) (now (payloads .entry)) count halves (now (output .entry)) ⌝ }
 {

@@ -32,7 +32,7 @@ fn reading_of(found: Found) -> Reading
 
 // The scan at a place of both lists.
 fn scan_of(found: Found, i: usize) -> Scan
-    requires { ⌜ i < 8 ⌝ }
+    requires { ⌜ i < 64 ⌝ }
     ensures { λ r. ⌜ r ≡ scanOf (found .halves) i ⌝ }
 {
     let lows = found.halves.lows;
@@ -43,7 +43,7 @@ fn scan_of(found: Found, i: usize) -> Scan
     }
 }
 
-// Reads with room for as many scans as the count says, and for 8 where it says more.
+// Reads with room for as many scans as the count says, and for 64 where it says more.
 fn read_halves(
     bytes: &[u8],
     kinds: &mut [u8],
@@ -55,8 +55,8 @@ fn read_halves(
         r (now (kinds .exit)) (now (keys .exit)) (now (payloads .exit)) ⌝ }
 {
     let room = least(count);
-    let mut lows: [u32; 8] = [0; 8];
-    let mut highs: [u32; 8] = [0; 8];
+    let mut lows: [u32; 64] = [0; 64];
+    let mut highs: [u32; 64] = [0; 64];
     let reading = read(
         bytes,
         kinds,
@@ -71,7 +71,7 @@ fn read_halves(
 
 // Stores the scans that were found at the front of the list, and gives back what the core gave.
 fn store_scans(scans: &mut [Scan], found: Found) -> Reading
-    requires { ⌜ (found .reading .scans ≤ 8) × (found .reading .scans ≤ length (now scans)) ⌝ }
+    requires { ⌜ (found .reading .scans ≤ 64) × (found .reading .scans ≤ length (now scans)) ⌝ }
     ensures { λ r. ⌜ (r ≡ found .reading) × (now (scans .exit) ≡ storedFirst (found .reading .scans) (found .halves) (now (scans .entry))) ⌝ }
 {
     let count = scans_found(found);

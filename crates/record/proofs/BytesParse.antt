@@ -2,20 +2,22 @@
 -- Assumes nothing.
 use Prim.Native.Nat.{ℕ, _+_, _^_, _≤_, _<_}
 use mathlib.Core.Path.{_≡_, refl, sym, ap, _∙_}
+use mathlib.Core.Bool.{true}
 use mathlib.Core.Option.{some}
 use mathlib.Core.List.{List, [], _∷_, _++_, append-assoc, append-nil}
 use native.Mathlib.Omega.{arith}
 use lib.ListN.{length, drop, length-append}
 use borrow.Author.Tests.{le-ltb, le-leb, eq-eqb}
-use Rattle.words.specs.Word.{bigEndian}
+use Rattle.words.specs.Word.{bigEndian, word}
 use Rattle.record.specs.declared.point.Point.{Point}
 use Rattle.record.specs.declared.point.Point.the-variants.{Read, Put, Delete}
 use Rattle.record.specs.declared.point.Scan.{Scan}
 use Rattle.record.specs.declared.checker.PointStep.the-variants as PointStep
 use Rattle.record.specs.declared.checker.ScanStep.the-variants as ScanStep
-use Rattle.record.specs.Record.{Rec, keyOf, payloadOf, pointBytes, pointsBytes, scanBytes, scansBytes, bodyBytes, bytesOf, PointsRise, Apart, Valid}
-use Rattle.record.specs.Parse.{took, stepPoint, stepScan, parsePoints, parseScans, parse}
+use Rattle.record.specs.Record.{Rec, keyOf, payloadOf, pointBytes, pointsBytes, scanBytes, scansBytes, bodyBytes, bytesOf, versionOf, headSize, PointsRise, Apart, Valid}
+use Rattle.record.specs.Parse.{took, stepPoint, stepScan, parsePoints, parseScans, versionIn, pointCount, scanCount, firstPoint, countsOk, headOk, parse}
 use Rattle.record.proofs.Places.{after-here, fits-here, byte-here, word-here, after-word}
+use Rattle.record.proofs.Versions.{version-most, counts-fit}
 use Rattle.record.proofs.Sizes.{sizeOf, point-size, points-size-most, scan-bytes-size, scans-bytes-size, body-size, whole-size}
 
 -- A POINT
@@ -104,38 +106,98 @@ scans-found (c ∷ cs) low at bs rest e r =
 -- THE WHOLE RECORD
 
 module _ (r : Rec) (v : Valid r) where
-  -- what stands from place 9 on
-  tail9 : List ℕ
-  tail9 = pointsBytes (r .points) ++ scansBytes (r .scans)
-
   -- R8: the longest
-  pub body-most : length (bodyBytes r) ≤ 903
-  body-most = omega (arith, body-size r, points-size-most (r .points), scans-bytes-size (r .scans), v .few-points, v .few-scans)
+  pub body-most : length (bodyBytes r) ≤ 13833
+  body-most =
+      omega (
+        arith,
+        body-size r,
+        points-size-most (r .points),
+        scans-bytes-size (r .scans),
+        v .few-points,
+        v .few-scans,
+        version-most (length (r .points)) (length (r .scans)),
+      )
+
+  -- the version, and how wide the counts are
+  w : ℕ
+  w = versionOf r
+
+  -- the points and the scans
+  tail : List ℕ
+  tail = pointsBytes (r .points) ++ scansBytes (r .scans)
+
+  -- what stands from each place of the head on
+  from-2 : drop 2 (bytesOf r) ≡ bodyBytes r
+  from-2 = after-word (bytesOf r) (bodyBytes r) 0 2 (length (bodyBytes r)) refl
+
+  from-3 : drop 3 (bytesOf r) ≡ bigEndian 4 (r .snapshot) ++ (bigEndian w (length (r .points)) ++ (bigEndian w (length (r .scans)) ++ tail))
+  unfolding w tail
+  from-3 = after-here (bytesOf r) _ 2 (versionOf r ∷ []) 1 refl from-2
+
+  from-7 : drop 7 (bytesOf r) ≡ bigEndian w (length (r .points)) ++ (bigEndian w (length (r .scans)) ++ tail)
+  from-7 = after-word (bytesOf r) _ 3 4 (r .snapshot) from-3
+
+  from-scans : drop (7 + w) (bytesOf r) ≡ bigEndian w (length (r .scans)) ++ tail
+  from-scans = after-word (bytesOf r) _ 7 w (length (r .points)) from-7
+
+  from-head : drop (7 + w + w) (bytesOf r) ≡ pointsBytes (r .points) ++ scansBytes (r .scans)
+  unfolding tail
+  from-head = after-word (bytesOf r) tail (7 + w) w (length (r .scans)) from-scans
+
+  -- what is read there
+  version-read : versionIn (bytesOf r) ≡ w
+  unfolding w
+  version-read = byte-here (bytesOf r) _ 2 (versionOf r) from-2
+
+  first-read : firstPoint (bytesOf r) ≡ 7 + w + w
+  unfolding firstPoint
+  first-read = ap headSize version-read
+
+  points-read : pointCount (bytesOf r) ≡ length (r .points)
+  unfolding pointCount w
+  points-read =
+      ap (λ (n : ℕ). word n (bytesOf r) 7) version-read
+      ∙ word-here (bytesOf r) _ 7 w (length (r .points)) from-7 (counts-fit (length (r .points)) (length (r .scans)) (v .few-points) (v .few-scans) .0)
+
+  scans-read : scanCount (bytesOf r) ≡ length (r .scans)
+  unfolding scanCount w
+  scans-read =
+      ap (λ (n : ℕ). word n (bytesOf r) (7 + n)) version-read
+      ∙ word-here (bytesOf r) _ (7 + w) w (length (r .scans)) from-scans (counts-fit (length (r .points)) (length (r .scans)) (v .few-points) (v .few-scans) .1)
+
+  -- the head is right
+  head-right : headOk (bytesOf r) ≡ true
+  unfolding headOk countsOk w
+  head-right =
+      simp (
+        first-read,
+        version-read,
+        points-read,
+        scans-read,
+        le-leb (7 + w + w) (length (bytesOf r)) (omega (arith, whole-size r, body-size r)),
+        word-here (bytesOf r) (bodyBytes r) 0 2 (length (bodyBytes r)) refl (omega (arith, body-most)),
+        eq-eqb (length (bodyBytes r) + 2) (length (bytesOf r)) (sym (whole-size r)),
+        le-leb _ _ (v .few-points),
+        le-leb _ _ (v .few-scans),
+        eq-eqb w w refl,
+      )
 
   -- the whole record is found
   pub bytes-parse : parse (bytesOf r) ≡ some r
-  unfolding parse tail9
+  unfolding parse w
   bytes-parse =
       let bs : List ℕ = bytesOf r in
       let n : ℕ = length (pointsBytes (r .points)) in
       let m : ℕ = length (scansBytes (r .scans)) in
-      let d2 : drop 2 bs ≡ bodyBytes r = after-word bs (bodyBytes r) 0 2 (length (bodyBytes r)) refl in
-      let d3 : drop 3 bs ≡ bigEndian 4 (r .snapshot) ++ (length (r .points) ∷ length (r .scans) ∷ tail9) = after-here bs _ 2 (1 ∷ []) 1 refl d2 in
-      let d7 : drop 7 bs ≡ length (r .points) ∷ length (r .scans) ∷ tail9 = after-word bs _ 3 4 (r .snapshot) d3 in
-      let d8 : drop 8 bs ≡ length (r .scans) ∷ tail9 = after-here bs _ 7 (length (r .points) ∷ []) 1 refl d7 in
-      let d9 : drop 9 bs ≡ pointsBytes (r .points) ++ scansBytes (r .scans) = after-here bs _ 8 (length (r .scans) ∷ []) 1 refl d8 in
-      let dn : drop (9 + n) bs ≡ scansBytes (r .scans) ++ [] = after-here bs (scansBytes (r .scans)) 9 (pointsBytes (r .points)) n refl d9 ∙ sym (append-nil (scansBytes (r .scans))) in
+      let dn : drop (7 + w + w + n) bs ≡ scansBytes (r .scans) ++ [] = after-here bs (scansBytes (r .scans)) (7 + w + w) (pointsBytes (r .points)) n refl from-head ∙ sym (append-nil (scansBytes (r .scans))) in
       simp (
-        le-leb 9 (length bs) (omega (arith, whole-size r, body-size r)),
-        word-here bs (bodyBytes r) 0 2 (length (bodyBytes r)) refl (omega (arith, body-most)),
-        eq-eqb (length (bodyBytes r) + 2) (length bs) (sym (whole-size r)),
-        byte-here bs _ 2 1 d2,
-        byte-here bs _ 7 (length (r .points)) d7,
-        byte-here bs _ 8 (length (r .scans)) d8,
-        le-leb _ _ (v .few-points),
-        le-leb _ _ (v .few-scans),
-        points-found (r .points) 0 9 bs (scansBytes (r .scans)) d9 (v .rising),
-        scans-found (r .scans) 0 (9 + n) bs [] dn (v .apart),
-        eq-eqb (9 + n + m) (length bs) (omega (arith, whole-size r, body-size r)),
-        word-here bs _ 3 4 (r .snapshot) d3 (v .snapshot-fits),
+        head-right,
+        first-read,
+        points-read,
+        scans-read,
+        points-found (r .points) 0 (7 + w + w) bs (scansBytes (r .scans)) from-head (v .rising),
+        scans-found (r .scans) 0 (7 + w + w + n) bs [] dn (v .apart),
+        eq-eqb (7 + w + w + n + m) (length bs) (omega (arith, whole-size r, body-size r)),
+        word-here bs _ 3 4 (r .snapshot) from-3 (v .snapshot-fits),
       )

@@ -1,23 +1,25 @@
--- What `check` meets at each return: the tests that led there, and the answer that the definition gives.
+-- What `well_formed` and `check` meet at each return: the tests that led there, and what the definition gives.
 -- Assumes nothing.
 use Prim.Native.Nat.{ℕ, zero, suc, _+_, _≤_, _<_}
 use mathlib.Core.Path.{_≡_, refl, sym, _∙_}
-use mathlib.Core.Bool.{true}
+use mathlib.Core.Option.{Option, none, some}
 use mathlib.Core.List.{List}
 use native.Mathlib.Omega.{arith}
-use lib.ListN.{length, getD}
-use borrow.Author.Tests.{le-leb, lt-leb, eq-eqb, ne-eqb}
-use Rattle.words.specs.Word.{word}
+use lib.ListN.{length}
+use borrow.Author.Tests.{eq-eqb, ne-eqb}
 use Rattle.record.specs.declared.point.Point.{Point}
 use Rattle.record.specs.declared.checker.PointStep.{PointStep}
 use Rattle.record.specs.declared.checker.PointStep.the-variants.{Bad, Next}
 use Rattle.record.specs.declared.checker.End.{End}
 use Rattle.record.specs.declared.checker.End.the-variants as End
+use Rattle.record.specs.declared.checker.Head.{Head}
+use Rattle.record.specs.declared.checker.Head.the-variants as Head
 use Rattle.record.specs.Answer.{committed, malformed}
-use Rattle.record.specs.Record.{keyOf}
-use Rattle.record.specs.Parse.{Parsed, took, stepPoint, afterPoint, parsePoints, parseScans, endOf, listOf, headOk, parse, checkOf}
+use Rattle.record.specs.Record.{Rec, keyOf}
+use Rattle.record.specs.Parse.{Parsed, took, stepPoint, afterPoint, parsePoints, parseScans, endOf, listOf, pointCount, scanCount, firstPoint, headOf, parse, wellFormed, checkOf}
 use Rattle.record.proofs.Cases.{bad-end, took-at, end-also}
 use Rattle.record.proofs.PointLaws.{step-size}
+use Rattle.record.proofs.HeadLaws.{HeadFound, none-right, head-found}
 
 -- WHERE POINTS END IS WITHIN THE BYTES
 
@@ -39,63 +41,54 @@ points-within (suc n) low bs at e h k =
 pub points-inside : (n low : ℕ) (bs : List ℕ) (at e : ℕ) (r : End) → at ≤ length bs → r ≡ endOf (parsePoints n low bs at) → r ≡ End.At e → e ≤ length bs
 points-inside n low bs at e r h i j = points-within n low bs at e h (sym i ∙ j)
 
--- THE RETURNS, IN THE ORDER OF THE TESTS
+-- WELL_FORMED: THE RETURNS, IN THE ORDER OF THE TESTS
 
-module _ (bs : List ℕ) where
-  -- fewer than nine bytes
-  pub check-short : length bs < 9 → malformed ≡ checkOf (parse bs)
+module _ (bs : List ℕ) (f : Head) (is : f ≡ headOf bs) where
+  -- a head that is not right
+  pub formed-head : f ≡ Head.Bad → Head.Bad ≡ wellFormed (parse bs) bs
   unfolding parse
-  check-short h = simp (lt-leb _ _ h)
+  formed-head e = simp (none-right bs f is e)
 
-  module _ (long : 9 ≤ length bs) (w : ℕ) (is-w : w ≡ word 2 bs 0) where
-    -- a length that is not the number of bytes after it
-    pub check-size : (w + 2 ≡ length bs → ⊥) → malformed ≡ checkOf (parse bs)
+  module _ (p s start : ℕ) (e : f ≡ Head.Counts p s start) (rp : End) (is-p : rp ≡ endOf (parsePoints p 0 bs start)) where
+    -- what the head says
+    h : HeadFound bs p s start
+    h = head-found bs f is p s start e
+
+    -- points that break a rule
+    pub formed-points : rp ≡ End.Bad → Head.Bad ≡ wellFormed (parse bs) bs
     unfolding parse
-    check-size h = simp (le-leb _ _ long, ← is-w, ne-eqb _ _ h)
+    formed-points b = simp (h .ok, ← h .points, ← h .first, bad-end (parsePoints p 0 bs start) (sym is-p ∙ b))
 
-    module _ (whole : w + 2 ≡ length bs) where
-      -- another version
-      pub check-version : (getD bs 2 0 ≡ 1 → ⊥) → malformed ≡ checkOf (parse bs)
+    module _ (at : ℕ) (is-at : rp ≡ End.At at) (rs : End) (is-s : rs ≡ endOf (parseScans s 0 bs at)) where
+      -- the points were taken, up to a place
+      points-at : parsePoints p 0 bs start ≡ took (listOf (parsePoints p 0 bs start)) at
+      points-at = took-at (parsePoints p 0 bs start) at (sym is-p ∙ is-at)
+
+      -- scans that break a rule
+      pub formed-scans : rs ≡ End.Bad → Head.Bad ≡ wellFormed (parse bs) bs
       unfolding parse
-      check-version h = simp (le-leb _ _ long, ← is-w, eq-eqb _ _ whole, ne-eqb _ _ h)
+      formed-scans b = simp (h .ok, ← h .points, ← h .first, ← h .scans, points-at, bad-end (parseScans s 0 bs at) (sym is-s ∙ b))
 
-      module _ (version : getD bs 2 0 ≡ 1) where
-        -- more than 64 points
-        pub check-points : 64 < getD bs 7 0 → malformed ≡ checkOf (parse bs)
+      module _ (end : ℕ) (is-end : rs ≡ End.At end) where
+        -- bytes behind the scans
+        pub formed-end : (end ≡ length bs → ⊥) → Head.Bad ≡ wellFormed (parse bs) bs
         unfolding parse
-        check-points h = simp (le-leb _ _ long, ← is-w, eq-eqb _ _ whole, version, lt-leb _ _ h)
+        formed-end n = simp (h .ok, ← h .points, ← h .first, ← h .scans, points-at, took-at (parseScans s 0 bs at) end (sym is-s ∙ is-end), ne-eqb _ _ n)
 
-        -- more than 8 scans
-        pub check-scans : getD bs 7 0 ≤ 64 → 8 < getD bs 8 0 → malformed ≡ checkOf (parse bs)
+        -- well formed
+        pub formed-whole : end ≡ length bs → Head.Counts p s start ≡ wellFormed (parse bs) bs
         unfolding parse
-        check-scans h k = simp (le-leb _ _ long, ← is-w, eq-eqb _ _ whole, version, le-leb _ _ h, lt-leb _ _ k)
+        formed-whole n =
+            simp (h .ok, ← h .points, ← h .first, ← h .scans, points-at, took-at (parseScans s 0 bs at) end (sym is-s ∙ is-end), eq-eqb _ _ n)
 
-        module _ (few-points : getD bs 7 0 ≤ 64) (few-scans : getD bs 8 0 ≤ 8) (rp : End) (is-p : rp ≡ endOf (parsePoints (getD bs 7 0) 0 bs 9)) where
-          -- all tests of the head passed
-          head : headOk bs ≡ true
-          head = simp (le-leb _ _ long, ← is-w, eq-eqb _ _ whole, version, le-leb _ _ few-points, le-leb _ _ few-scans)
+-- CHECK
 
-          -- points that break a rule
-          pub check-points-bad : rp ≡ End.Bad → malformed ≡ checkOf (parse bs)
-          unfolding parse
-          check-points-bad h = simp (head, bad-end (parsePoints (getD bs 7 0) 0 bs 9) (sym is-p ∙ h))
+-- no well-formed record
+pub check-bad : (x : Option Rec) (bs : List ℕ) (f : Head) → f ≡ wellFormed x bs → f ≡ Head.Bad → malformed ≡ checkOf x
+check-bad none bs f is e = refl
+check-bad (some r) bs f is e = let z : Head.Bad ≡ Head.Counts (pointCount bs) (scanCount bs) (firstPoint bs) = sym e ∙ is in let y : _≡_ {A = ℕ} 0 1 = cc in absurd (omega arith)
 
-          module _ (at : ℕ) (is-at : rp ≡ End.At at) (rs : End) (is-s : rs ≡ endOf (parseScans (getD bs 8 0) 0 bs at)) where
-            -- the points were taken, up to a place
-            points-at : parsePoints (getD bs 7 0) 0 bs 9 ≡ took (listOf (parsePoints (getD bs 7 0) 0 bs 9)) at
-            points-at = took-at (parsePoints (getD bs 7 0) 0 bs 9) at (sym is-p ∙ is-at)
-
-            -- scans that break a rule
-            pub check-scans-bad : rs ≡ End.Bad → malformed ≡ checkOf (parse bs)
-            unfolding parse
-            check-scans-bad h = simp (head, points-at, bad-end (parseScans (getD bs 8 0) 0 bs at) (sym is-s ∙ h))
-
-            -- bytes behind the scans
-            pub check-end : (end : ℕ) → rs ≡ End.At end → (end ≡ length bs → ⊥) → malformed ≡ checkOf (parse bs)
-            unfolding parse
-            check-end end h k = simp (head, points-at, took-at (parseScans (getD bs 8 0) 0 bs at) end (sym is-s ∙ h), ne-eqb _ _ k)
-
-            -- well formed
-            pub check-well : (end : ℕ) → rs ≡ End.At end → end ≡ length bs → committed ≡ checkOf (parse bs)
-            unfolding parse
-            check-well end h k = simp (head, points-at, took-at (parseScans (getD bs 8 0) 0 bs at) end (sym is-s ∙ h), eq-eqb _ _ k)
+-- one
+pub check-good : (x : Option Rec) (bs : List ℕ) (f : Head) (p s start : ℕ) → f ≡ wellFormed x bs → f ≡ Head.Counts p s start → committed ≡ checkOf x
+check-good none bs f p s start is e = let z : Head.Bad ≡ Head.Counts p s start = sym is ∙ e in let y : _≡_ {A = ℕ} 0 1 = cc in absurd (omega arith)
+check-good (some r) bs f p s start is e = refl

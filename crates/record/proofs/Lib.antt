@@ -2,10 +2,14 @@ pub mod Cases
 pub mod PointLaws
 pub mod ScanLaws
 pub mod FillLaws
+pub mod Versions
+pub mod HeadLaws
 pub mod CheckLaws
 pub mod Lengths
 pub mod WellFormed
 pub mod ReadLaws
+pub mod Rooms
+pub mod Before
 pub mod Places
 pub mod Sizes
 pub mod BytesParse

@@ -8,7 +8,7 @@ use native.Mathlib.Omega.{arith}
 use lib.ListN.{length, getD, drop, length-drop}
 use lib.Seq.{drop-length}
 use lib.Dec.{ltb, eqb}
-use borrow.Author.Tests.{ltb-false, eqb-true, leb-true}
+use borrow.Author.Tests.{ltb-false, eqb-true}
 use Rattle.words.specs.Word.{Bytes, word, bigEndian}
 use Rattle.words.specs.Laws.{word-fits}
 use Rattle.record.specs.declared.point.Point.{Point}
@@ -16,11 +16,12 @@ use Rattle.record.specs.declared.point.Point.the-variants.{Read, Put, De
 use Rattle.record.specs.declared.point.Scan.{Scan}
 use Rattle.record.specs.declared.checker.PointStep.the-variants as PointStep
 use Rattle.record.specs.declared.checker.ScanStep.the-variants as ScanStep
-use Rattle.record.specs.Record.{Rec, keyOf, payloadOf, pointBytes, pointsBytes, scanBytes, scansBytes, bodyBytes, bytesOf, PointsRise, Apart, Valid}
-use Rattle.record.specs.Parse.{took, stepPoint, stepScan, parsePoints, parseScans, parse, headOk}
-use Rattle.record.proofs.Cases.{by-case, and-split, no-point, no-scan, no-some, took-or, after-point, after-scan}
+use Rattle.record.specs.Record.{Rec, keyOf, payloadOf, pointBytes, pointsBytes, scanBytes, scansBytes, bodyBytes, bytesOf, versionOf, PointsRise, Apart, Valid}
+use Rattle.record.specs.Parse.{took, stepPoint, stepScan, parsePoints, parseScans, versionIn, pointCount, scanCount, firstPoint, headOk, parse}
+use Rattle.record.proofs.Cases.{by-case, no-point, no-scan, no-some, took-or, after-point, after-scan}
 use Rattle.record.proofs.Places.{byte-at, word-at}
 use Rattle.record.proofs.Sizes.{point-size}
+use Rattle.record.proofs.HeadLaws.{HeadRight, head-right, right-long}
 
 -- A POINT
 
@@ -179,41 +180,56 @@ pub record Written (bs : List ℕ) (r : Rec) : Type 0 where
   pub valid : Valid r
   pub same : bs ≡ bytesOf r
 
-module _ (bs : List ℕ) (y : Bytes bs) (long : 9 ≤ length bs) (whole : word 2 bs 0 + 2 ≡ length bs) (version : getD bs 2 0 ≡ 1)
-    (few-points : getD bs 7 0 ≤ 64) (few-scans : getD bs 8 0 ≤ 8) (ps : List Point) (cs : List Scan) (at : ℕ)
-    (p : PointsAre (getD bs 7 0) 0 bs 9 ps at) (s : ScansAre (getD bs 8 0) 0 bs at cs (length bs)) where
+module _ (bs : List ℕ) (y : Bytes bs) (h : HeadRight bs) (ps : List Point) (cs : List Scan) (at : ℕ)
+    (p : PointsAre (pointCount bs) 0 bs (firstPoint bs) ps at) (s : ScansAre (scanCount bs) 0 bs at cs (length bs)) where
   -- the record
   r : Rec
   r = record { snapshot = word 4 bs 3; points = ps; scans = cs }
 
+  -- its version is the one that is read
+  version-is : versionIn bs ≡ versionOf r
+  unfolding r
+  version-is = sym (h .version) ∙ rw (p .count, s .count)
+
   -- points and scans
-  from-nine : drop 9 bs ≡ pointsBytes ps ++ scansBytes cs
-  from-nine =
+  from-first : drop (firstPoint bs) bs ≡ pointsBytes ps ++ scansBytes cs
+  from-first =
       p .run ∙ ap (λ (l : List ℕ). pointsBytes ps ++ l) (s .run ∙ ap (λ (l : List ℕ). scansBytes cs ++ l) (drop-length bs) ∙ append-nil (scansBytes cs))
 
-  -- the counts before them
-  from-seven : drop 7 bs ≡ length ps ∷ length cs ∷ (pointsBytes ps ++ scansBytes cs)
+  -- the counts before them, as wide as the version that is read
+  counts-of : ℕ → List ℕ
+  counts-of w = bigEndian w (length ps) ++ (bigEndian w (length cs) ++ (pointsBytes ps ++ scansBytes cs))
+
+  from-seven : drop 7 bs ≡ counts-of (versionIn bs)
+  unfolding counts-of pointCount scanCount firstPoint
   from-seven =
-      byte-at bs 7 (omega arith) ∙ ap (λ (x : ℕ). x ∷ drop 8 bs) (sym (p .count)) ∙ ap (λ (l : List ℕ). length ps ∷ l)
-      (byte-at bs 8 (omega arith) ∙ ap (λ (x : ℕ). x ∷ drop 9 bs) (sym (s .count)) ∙ ap (λ (l : List ℕ). length cs ∷ l) from-nine)
+      let w : ℕ = versionIn bs in
+      let in-bytes : 7 + w + w ≤ length bs = h .within in
+      word-at bs 7 w y (omega arith) ∙ ap (λ (n : ℕ). bigEndian w n ++ drop (7 + w) bs) (sym (p .count))
+      ∙ ap (λ (l : List ℕ). bigEndian w (length ps) ++ l)
+      (word-at bs (7 + w) w y in-bytes ∙ ap (λ (n : ℕ). bigEndian w n ++ drop (7 + w + w) bs) (sym (s .count))
+      ∙ ap (λ (l : List ℕ). bigEndian w (length cs) ++ l) from-first)
 
   -- all that stands after the length
   from-two : drop 2 bs ≡ bodyBytes r
-  unfolding r
+  unfolding r counts-of
   from-two =
-      byte-at bs 2 (omega arith) ∙ ap (λ (x : ℕ). x ∷ drop 3 bs) version ∙ ap (λ (l : List ℕ). 1 ∷ l)
+      let long = right-long bs h in
+      byte-at bs 2 (omega arith) ∙ ap (λ (l : List ℕ). versionIn bs ∷ l)
       (word-at bs 3 4 y (omega arith) ∙ ap (λ (l : List ℕ). bigEndian 4 (word 4 bs 3) ++ l) from-seven)
+      ∙ ap (λ (w : ℕ). w ∷ (bigEndian 4 (word 4 bs 3) ++ counts-of w)) version-is
 
   -- the length before that
   put-together : Written bs (record { snapshot = word 4 bs 3; points = ps; scans = cs })
   unfolding r
   put-together =
-      let n : length (bodyBytes r) ≡ word 2 bs 0 = ap length (sym from-two) ∙ omega (arith, length-drop 2 bs, whole) in
+      let long = right-long bs h in
+      let n : length (bodyBytes r) ≡ word 2 bs 0 = ap length (sym from-two) ∙ omega (arith, length-drop 2 bs, h .whole) in
       record {
         valid = record {
           snapshot-fits = word-fits 4 bs 3 y;
-          few-points = omega (arith, p .count);
-          few-scans = omega (arith, s .count);
+          few-points = omega (arith, p .count, h .few-points);
+          few-scans = omega (arith, s .count, h .few-scans);
           rising = p .rising;
           apart = s .apart;
         };
@@ -229,13 +245,12 @@ pub parse-bytes : (bs : List ℕ) (r : Rec) → Bytes bs → parse bs ≡ some r
 unfolding parse
 parse-bytes bs r y e =
     by-case (headOk bs)
-    (λ k. took-or (parsePoints (getD bs 7 0) 0 bs 9) (λ x. no-some (simp (k, x) at e))
-    (λ ps at x. took-or (parseScans (getD bs 8 0) 0 bs at) (λ v. no-some (simp (k, x, v) at e))
+    (λ k. took-or (parsePoints (pointCount bs) 0 bs (firstPoint bs)) (λ x. no-some (simp (k, x) at e))
+    (λ ps at x. took-or (parseScans (scanCount bs) 0 bs at) (λ v. no-some (simp (k, x, v) at e))
     (λ cs end v. by-case (eqb end (length bs))
     (λ w. same-some (Written bs) (record { snapshot = word 4 bs 3; points = ps; scans = cs }) r (simp (k, x, v, w) at e)
-    (and-split _ _ k λ k1 k2. and-split _ _ k2 λ k3 k4. and-split _ _ k4 λ k5 k6. and-split _ _ k6 λ k7 k8.
-    put-together bs y (leb-true _ _ k1) (eqb-true _ _ k3) (eqb-true _ _ k5) (leb-true _ _ k7) (leb-true _ _ k8) ps cs at
-    (points-stand (getD bs 7 0) 0 bs 9 ps at y x)
-    (scans-stand (getD bs 8 0) 0 bs at cs (length bs) y (v ∙ ap (took cs) (eqb-true _ _ w)))))
+    (put-together bs y (head-right bs k) ps cs at
+    (points-stand (pointCount bs) 0 bs (firstPoint bs) ps at y x)
+    (scans-stand (scanCount bs) 0 bs at cs (length bs) y (v ∙ ap (took cs) (eqb-true _ _ w)))))
     (λ w. no-some (simp (k, x, v, w) at e)))))
     (λ k. no-some (simp k at e))

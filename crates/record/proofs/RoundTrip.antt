@@ -1,20 +1,22 @@
 -- The round trip on definitions: well-formed bytes are written back the same, and written records read back the same.
 -- Assumes nothing.
-use Prim.Native.Nat.{ℕ, zero, suc, _<_}
+use Prim.Native.Nat.{ℕ, zero, suc, _≤_, _<_}
 use mathlib.Core.Path.{_≡_, ap, _∙_}
 use mathlib.Core.Logic.{_↔_}
 use mathlib.Core.Option.{some}
 use mathlib.Core.List.{List, [], _∷_, _++_}
 use native.Mathlib.Omega.{arith}
+use native.Mathlib.Decide.{decLt}
 use lib.ListN.{length, getD}
 use Rattle.words.specs.Word.{Bytes, word, bigEndian}
 use Rattle.words.specs.Laws.{word-bigEndian, bytes-append, bytes-bigEndian}
 use Rattle.record.specs.declared.point.Point.{Point}
 use Rattle.record.specs.declared.point.Point.the-variants.{Read, Put, Delete}
 use Rattle.record.specs.declared.point.Scan.{Scan}
-use Rattle.record.specs.Record.{Rec, pointBytes, pointsBytes, scanBytes, scansBytes, bodyBytes, bytesOf, Valid, RecordSized}
+use Rattle.record.specs.Record.{Rec, pointBytes, pointsBytes, scanBytes, scansBytes, bodyBytes, bytesOf, versionOf, Valid, RecordSized}
 use Rattle.record.specs.Parse.{parse}
-use Rattle.record.proofs.Sizes.{body-size, whole-size}
+use Rattle.record.proofs.Versions.{version-1, by-version, version-least, version-most}
+use Rattle.record.proofs.Sizes.{points-size-least, points-size-most, scans-bytes-size, body-size, whole-size}
 use Rattle.record.proofs.BytesParse.{body-most, bytes-parse}
 use Rattle.record.proofs.ParseBytes.{Written, parse-bytes}
 
@@ -37,7 +39,26 @@ valid-size r v =
     let b = body-size r in
     let w = whole-size r in
     let m = body-most r v in
+    let l = version-least (length (r .points)) (length (r .scans)) in
     record { least = omega arith; most = omega arith; field-least = omega arith; field-most = omega arith; field = omega arith }
+
+-- R8: in version 1 the length says 903 at the most
+pub version-1-most : (r : Rec) → versionOf r ≡ 1 → length (bodyBytes r) ≤ 903
+version-1-most r e =
+    by-version (length (r .points)) (length (r .scans))
+    (λ p s f. omega (arith, body-size r, e, points-size-most (r .points), scans-bytes-size (r .scans)))
+    (λ f. absurd (omega (arith, e, f)))
+
+-- and in version 2 at least 81
+pub version-2-least : (r : Rec) → versionOf r ≡ 2 → 81 ≤ length (bodyBytes r)
+version-2-least r e =
+    elim (decLt 64 (length (r .points))) [
+      | yes many ↦ omega (arith, body-size r, e, points-size-least (r .points))
+      | no few ↦ elim (decLt 8 (length (r .scans))) [
+        | yes many ↦ omega (arith, body-size r, e, scans-bytes-size (r .scans))
+        | no less ↦ absurd (omega (arith, e, version-1 (length (r .points)) (length (r .scans)) (omega arith) (omega arith)))
+      ]
+    ]
 
 -- A RECORD'S BYTES ARE BYTES
 
@@ -75,10 +96,13 @@ bytes-scans (c ∷ cs) =
 -- each number in a valid record's bytes is a byte
 pub valid-bytes : (r : Rec) → Valid r → Bytes (bytesOf r)
 valid-bytes r v =
+    let w : ℕ = versionOf r in
     let tail : List ℕ = pointsBytes (r .points) ++ scansBytes (r .scans) in
-    let counts : List ℕ = length (r .points) ∷ length (r .scans) ∷ tail in
-    let b : Bytes counts =
-    bytes-cons (length (r .points)) (length (r .scans) ∷ tail) (omega (arith, v .few-points)) (bytes-cons (length (r .scans)) tail (omega (arith, v .few-scans))
-    (bytes-append (pointsBytes (r .points)) (scansBytes (r .scans)) (bytes-points (r .points)) (bytes-scans (r .scans)))) in
+    let scans : List ℕ = bigEndian w (length (r .scans)) ++ tail in
+    let points : List ℕ = bigEndian w (length (r .points)) ++ scans in
+    let t : Bytes tail = bytes-append (pointsBytes (r .points)) (scansBytes (r .scans)) (bytes-points (r .points)) (bytes-scans (r .scans)) in
+    let s : Bytes scans = bytes-append (bigEndian w (length (r .scans))) tail (bytes-bigEndian w (length (r .scans))) t in
+    let p : Bytes points = bytes-append (bigEndian w (length (r .points))) scans (bytes-bigEndian w (length (r .points))) s in
     bytes-append (bigEndian 2 (length (bodyBytes r))) (bodyBytes r) (bytes-bigEndian 2 (length (bodyBytes r)))
-    (bytes-cons 1 (bigEndian 4 (r .snapshot) ++ counts) (omega arith) (bytes-append (bigEndian 4 (r .snapshot)) counts (bytes-bigEndian 4 (r .snapshot)) b))
+    (bytes-cons w (bigEndian 4 (r .snapshot) ++ points) (omega (arith, version-most (length (r .points)) (length (r .scans))))
+    (bytes-append (bigEndian 4 (r .snapshot)) points (bytes-bigEndian 4 (r .snapshot)) p))

@@ -10,7 +10,7 @@ use Rattle.words.specs.Laws.{length-bigEndian}
 use Rattle.record.specs.declared.point.Point.{Point}
 use Rattle.record.specs.declared.point.Point.the-variants.{Read, Put, Delete}
 use Rattle.record.specs.declared.point.Scan.{Scan}
-use Rattle.record.specs.Record.{Rec, pointBytes, pointsBytes, scanBytes, scansBytes, bodyBytes, bytesOf}
+use Rattle.record.specs.Record.{Rec, pointBytes, pointsBytes, scanBytes, scansBytes, bodyBytes, bytesOf, versionOf, headSize}
 
 -- R8: 5 or 13 bytes each
 abbrev pub sizeOf : Point → ℕ
@@ -41,6 +41,11 @@ pub points-size-most : (ps : List Point) → length (pointsBytes ps) ≤ 13 * le
 points-size-most [] = omega arith
 points-size-most (p ∷ ps) = omega (arith, length-append (pointBytes p) (pointsBytes ps), point-size p, size-most p, points-size-most ps)
 
+-- and five at the least
+pub points-size-least : (ps : List Point) → 5 * length ps ≤ length (pointsBytes ps)
+points-size-least [] = omega arith
+points-size-least (p ∷ ps) = omega (arith, length-append (pointBytes p) (pointsBytes ps), point-size p, size-least p, points-size-least ps)
+
 -- a scan has eight bytes
 pub scan-bytes-size : (c : Scan) → length (scanBytes c) ≡ 8
 scan-bytes-size c = omega (arith, length-append (bigEndian 4 (c .low)) (bigEndian 4 (c .high)), length-bigEndian 4 (c .low), length-bigEndian 4 (c .high))
@@ -50,13 +55,21 @@ pub scans-bytes-size : (cs : List Scan) → length (scansBytes cs) ≡ 8 * lengt
 scans-bytes-size [] = refl
 scans-bytes-size (c ∷ cs) = omega (arith, length-append (scanBytes c) (scansBytes cs), scan-bytes-size c, scans-bytes-size cs)
 
--- seven bytes, the points and the scans stand after the length
-pub body-size : (r : Rec) → length (bodyBytes r) ≡ 7 + (length (pointsBytes (r .points)) + length (scansBytes (r .scans)))
+-- the head but for the two bytes of the length, the points and the scans stand after the length
+pub body-size : (r : Rec) → length (bodyBytes r) + 2 ≡ headSize (versionOf r) + (length (pointsBytes (r .points)) + length (scansBytes (r .scans)))
 body-size r =
+    let v : ℕ = versionOf r in
+    let tail : List ℕ = pointsBytes (r .points) ++ scansBytes (r .scans) in
+    let scans : List ℕ = bigEndian v (length (r .scans)) ++ tail in
+    let points : List ℕ = bigEndian v (length (r .points)) ++ scans in
     omega (
       arith,
-      length-append (bigEndian 4 (r .snapshot)) (length (r .points) ∷ length (r .scans) ∷ (pointsBytes (r .points) ++ scansBytes (r .scans))),
+      length-append (bigEndian 4 (r .snapshot)) points,
       length-bigEndian 4 (r .snapshot),
+      length-append (bigEndian v (length (r .points))) scans,
+      length-bigEndian v (length (r .points)),
+      length-append (bigEndian v (length (r .scans))) tail,
+      length-bigEndian v (length (r .scans)),
       length-append (pointsBytes (r .points)) (scansBytes (r .scans)),
     )
 

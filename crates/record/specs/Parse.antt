@@ -20,8 +20,10 @@ use Rattle.record.specs.declared.checker.ScanStep.{ScanStep}
 use Rattle.record.specs.declared.checker.ScanStep.the-variants as ScanStep
 use Rattle.record.specs.declared.checker.End.{End}
 use Rattle.record.specs.declared.checker.End.the-variants as End
+use Rattle.record.specs.declared.checker.Head.{Head}
+use Rattle.record.specs.declared.checker.Head.the-variants as Head
 use Rattle.record.specs.Answer.{committed, malformed}
-use Rattle.record.specs.Record.{Rec, keyOf, maxPoints, maxScans, version}
+use Rattle.record.specs.Record.{Rec, keyOf, maxPoints, maxScans, versionFor, countWidth, headSize}
 
 -- the point of the kind given whose bytes stand at a place
 abbrev pub pointAs : ℕ → List ℕ → ℕ → PointStep
@@ -92,18 +94,35 @@ abbrev pub placeOf : {A : Type 0} → Parsed A → ℕ
 placeOf bad = 0
 placeOf (took xs at) = at
 
--- the two counts stand at 7 and 8, the snapshot at 3, the first point at 9
-abbrev pub pointCount : List ℕ → ℕ
-pointCount bs = getD bs 7 0
+-- the version stands at 2, the snapshot at 3, the two counts from 7 on, as wide as the version says, and the first point behind them
+abbrev pub versionIn : List ℕ → ℕ
+versionIn bs = getD bs 2 0
 
-abbrev pub scanCount : List ℕ → ℕ
-scanCount bs = getD bs 8 0
+unfoldable pub pointCount : List ℕ → ℕ
+pointCount bs = word (countWidth (versionIn bs)) bs 7
 
--- the length, the version and the two counts are right
-abbrev pub headOk : List ℕ → Bool
+unfoldable pub scanCount : List ℕ → ℕ
+scanCount bs = word (countWidth (versionIn bs)) bs (7 + countWidth (versionIn bs))
+
+unfoldable pub firstPoint : List ℕ → ℕ
+firstPoint bs = headSize (versionIn bs)
+
+-- R6, R7, R53: counts that are not too large, and the version is theirs
+unfoldable pub countsOk : ℕ → ℕ → ℕ → Bool
+countsOk version points scans = leb points maxPoints && (leb scans maxScans && eqb (versionFor points scans) version)
+
+-- the bytes reach behind the counts, the length is theirs, and the version and the counts are right
+unfoldable pub headOk : List ℕ → Bool
 headOk bs =
-    leb 9 (length bs) && (eqb (word 2 bs 0 + 2) (length bs)
-    && (eqb (getD bs 2 0) version && (leb (pointCount bs) maxPoints && leb (scanCount bs) maxScans)))
+    leb (firstPoint bs) (length bs) && (eqb (word 2 bs 0 + 2) (length bs) && countsOk (versionIn bs) (pointCount bs) (scanCount bs))
+
+-- how many points and scans there are, and where the first point stands, if version and counts are right
+unfoldable pub headFor : ℕ → ℕ → ℕ → Head
+headFor version points scans = if countsOk version points scans then Head.Counts points scans (headSize version) else Head.Bad
+
+-- the same of bytes, if the whole head is right
+unfoldable pub headOf : List ℕ → Head
+headOf bs = if headOk bs then Head.Counts (pointCount bs) (scanCount bs) (firstPoint bs) else Head.Bad
 
 abbrev pub onTook : {A B : Type 0} → Parsed A → (List A → ℕ → Option B) → Option B
 onTook bad f = none
@@ -113,10 +132,19 @@ onTook (took xs at) f = f xs at
 unfoldable pub parse : List ℕ → Option Rec
 parse bs =
     if headOk bs
-    then (onTook (parsePoints (pointCount bs) 0 bs 9) λ ps at.
+    then (onTook (parsePoints (pointCount bs) 0 bs (firstPoint bs)) λ ps at.
     onTook (parseScans (scanCount bs) 0 bs at) λ cs end.
     if eqb end (length bs) then some (record { snapshot = word 4 bs 3; points = ps; scans = cs }) else none)
     else none
+
+-- the head of a record that is well formed
+abbrev pub wellFormed : Option Rec → List ℕ → Head
+wellFormed none bs = Head.Bad
+wellFormed (some r) bs = Head.Counts (pointCount bs) (scanCount bs) (firstPoint bs)
+
+-- R53: the version byte says 2; a record with another is malformed or has at most 64 points and at most 8 scans
+abbrev pub isLarge : List ℕ → Bool
+isLarge bs = eqb (versionIn bs) 2
 
 -- 0 for a well-formed record, else 4
 abbrev pub checkOf : Option Rec → Answer

@@ -1,7 +1,7 @@
 -- What the reader answers, and what it leaves in the five lists that it is lent.
 -- Assumes nothing: these are definitions.
 use Prim.Native.Nat.{ℕ}
-use mathlib.Core.Bool.{Bool, _&&_}
+use mathlib.Core.Bool.{Bool, true, _&&_}
 use mathlib.Core.Path.{_≡_}
 use mathlib.Core.Option.{Option, none, some}
 use mathlib.Core.List.{List, _++_, map}
@@ -54,6 +54,10 @@ roomy r l =
     leb (length (r .points)) (length (l .kinds)) && (leb (length (r .points)) (length (l .keys))
     && (leb (length (r .points)) (length (l .payloads))
     && (leb (length (r .scans)) (length (l .lows)) && leb (length (r .scans)) (length (l .highs)))))
+
+-- R11: the lists have room for the record that the bytes are, if they are one
+abbrev pub RoomFor : List ℕ → Lists → Type 0
+RoomFor bytes l = (r : Rec) → parse bytes ≡ some r → roomy r l ≡ true
 
 -- R11: snapshot and both counts are 0 on a refusal
 abbrev pub readRefused : Answer → Reading

@@ -1,9 +1,12 @@
 -- What a record is, what its bytes are, and which rules it keeps.
 -- Assumes nothing: these are definitions.
 use Prim.Native.Nat.{ℕ, _+_, _^_, _≤_, _<_}
+use mathlib.Core.Bool.{_&&_}
 use mathlib.Core.Path.{_≡_}
 use mathlib.Core.List.{List, [], _∷_, _++_}
 use lib.ListN.{length}
+use lib.Dec.{leb}
+use Rattle.words.specs.Choice.{if_then_else_}
 use Rattle.words.specs.Word.{bigEndian, word}
 use Rattle.record.specs.declared.point.Point.{Point}
 use Rattle.record.specs.declared.point.Point.the-variants.{Read, Put, Delete}
@@ -17,15 +20,27 @@ pub record Rec : Type 0 where
 
 -- R6: how many points at most
 abbrev pub maxPoints : ℕ
-maxPoints = 64
+maxPoints = 1024
 
 -- R7: how many scans at most
 abbrev pub maxScans : ℕ
-maxScans = 8
+maxScans = 64
 
--- R4: the version byte
-abbrev pub version : ℕ
-version = 1
+-- R53: the version of a record with so many points and scans: 1 for at most 64 points and at most 8 scans, else 2
+unfoldable pub versionFor : ℕ → ℕ → ℕ
+versionFor points scans = if leb points 64 && leb scans 8 then 1 else 2
+
+-- R53: the version of a record
+abbrev pub versionOf : Rec → ℕ
+versionOf r = versionFor (length (r .points)) (length (r .scans))
+
+-- R4: how many bytes each of the two counts has: one in version 1, two in version 2, so as many as the version says
+abbrev pub countWidth : ℕ → ℕ
+countWidth version = version
+
+-- R4: how many bytes stand before the first point: length, version, snapshot and the two counts
+abbrev pub headSize : ℕ → ℕ
+headSize version = 7 + countWidth version + countWidth version
 
 -- R5: the number of each kind
 abbrev pub kindOf : Point → ℕ
@@ -68,7 +83,10 @@ scansBytes (c ∷ cs) = scanBytes c ++ scansBytes cs
 -- R4: what stands behind the length
 abbrev pub bodyBytes : Rec → List ℕ
 bodyBytes r =
-    version ∷ (bigEndian 4 (r .snapshot) ++ (length (r .points) ∷ length (r .scans) ∷ (pointsBytes (r .points) ++ scansBytes (r .scans))))
+    versionOf r ∷ (bigEndian 4 (r .snapshot)
+    ++ (bigEndian (countWidth (versionOf r)) (length (r .points))
+    ++ (bigEndian (countWidth (versionOf r)) (length (r .scans))
+    ++ (pointsBytes (r .points) ++ scansBytes (r .scans)))))
 
 -- R4: the length, which does not count its own two bytes, and what stands behind it
 abbrev pub bytesOf : Rec → List ℕ
@@ -92,12 +110,12 @@ pub record Valid (r : Rec) : Type 0 where
   pub rising : PointsRise 0 (r .points)
   pub apart : Apart 0 (r .scans)
 
--- the size of a record's bytes (R8): 9 to 905 of them, and the length in the first two says 7 to 903, how many follow these two
+-- the size of a record's bytes (R8): 9 to 13,835 of them, and the length in the first two says 7 to 13,833, how many follow these two
 pub record RecordSized (r : Rec) : Type 0 where
   pub least : 9 ≤ length (bytesOf r)
-  pub most : length (bytesOf r) ≤ 905
+  pub most : length (bytesOf r) ≤ 13835
   pub field-least : 7 ≤ word 2 (bytesOf r) 0
-  pub field-most : word 2 (bytesOf r) 0 ≤ 903
+  pub field-most : word 2 (bytesOf r) 0 ≤ 13833
   pub field : word 2 (bytesOf r) 0 + 2 ≡ length (bytesOf r)
 
 -- R5: what `kind`, `key` and `payload` promise of a point

@@ -8,9 +8,13 @@ mod reader;
 
 pub use answer::Answer;
 pub use checker::End;
+pub use checker::Head;
 pub use checker::PointStep;
 pub use checker::ScanStep;
 pub use checker::check;
+pub use checker::head_size;
+pub use checker::is_large;
+pub use checker::version_for;
 pub use point::Point;
 pub use point::Scan;
 pub use reader::Reading;

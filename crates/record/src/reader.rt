@@ -1,10 +1,11 @@
 // The reader: a record's bytes into lent lists.
 use crate::answer::Answer;
+use crate::checker::Head;
 use crate::checker::PointStep;
 use crate::checker::ScanStep;
-use crate::checker::check;
 use crate::checker::point_at;
 use crate::checker::scan_at;
+use crate::checker::well_formed;
 use words::word4;
 ghost use mathlib.Core.Path.{_≡_};
 ghost use mathlib.Core.Bool.{true};
@@ -36,23 +37,24 @@ fn refusal(answer: Answer) -> Reading
     }
 }
 
-// Fills the fronts of three lists with `count` points, and gives the place past them.
+// Fills the fronts of three lists with `count` points that start at `start`, and gives the place past them.
 fn fill_points(
     bytes: &[u8],
+    start: usize,
     count: usize,
     kinds: &mut [u8],
     keys: &mut [u32],
     payloads: &mut [u64],
 ) -> usize
-    requires { ⌜ 9 ≤ length (now bytes) ⌝ }
-    requires { ⌜ isTook (parsePoints count 0 (now bytes) 9) ≡ true ⌝ }
+    requires { ⌜ start ≤ length (now bytes) ⌝ }
+    requires { ⌜ isTook (parsePoints count 0 (now bytes) start) ≡ true ⌝ }
     requires { ⌜ (count ≤ length (now kinds)) × (count ≤ length (now keys)) × (count ≤ length (now payloads)) ⌝ }
-    ensures { λ r. ⌜ r ≡ placeOf (parsePoints count 0 (now (bytes .entry)) 9) ⌝ }
-    ensures { λ _. ⌜ now (kinds .exit) ≡ sets (now (kinds .entry)) 0 (map kindOf (listOf (parsePoints count 0 (now (bytes .entry)) 9))) ⌝ }
-    ensures { λ _. ⌜ now (keys .exit) ≡ sets (now (keys .entry)) 0 (map keyOf (listOf (parsePoints count 0 (now (bytes .entry)) 9))) ⌝ }
-    ensures { λ _. ⌜ now (payloads .exit) ≡ sets (now (payloads .entry)) 0 (map payloadOf (listOf (parsePoints count 0 (now (bytes .entry)) 9))) ⌝ }
+    ensures { λ r. ⌜ r ≡ placeOf (parsePoints count 0 (now (bytes .entry)) start) ⌝ }
+    ensures { λ _. ⌜ now (kinds .exit) ≡ sets (now (kinds .entry)) 0 (map kindOf (listOf (parsePoints count 0 (now (bytes .entry)) start))) ⌝ }
+    ensures { λ _. ⌜ now (keys .exit) ≡ sets (now (keys .entry)) 0 (map keyOf (listOf (parsePoints count 0 (now (bytes .entry)) start))) ⌝ }
+    ensures { λ _. ⌜ now (payloads .exit) ≡ sets (now (payloads .entry)) 0 (map payloadOf (listOf (parsePoints count 0 (now (bytes .entry)) start))) ⌝ }
 {
-    let mut at: usize = 9;
+    let mut at = start;
     let mut low: u64 = 0;
     let mut i: usize = 0;
     while i < count {
@@ -107,10 +109,14 @@ pub fn read(
         (lists (now (kinds .entry)) (now (keys .entry)) (now (payloads .entry)) (now (lows .entry)) (now (highs .entry))) r
         (lists (now (kinds .exit)) (now (keys .exit)) (now (payloads .exit)) (now (lows .exit)) (now (highs .exit))) ⌝ }
 {
-    if check(bytes).number != Answer::COMMITTED.number {
+    let Head::Counts {
+        points,
+        scans,
+        start,
+    } = well_formed(bytes)
+    else {
         return refusal(Answer::MALFORMED);
-    }
-    let points = bytes[7] as usize;
+    };
     if kinds.len() < points {
         return refusal(Answer::OUTPUT_SHORT);
     }
@@ -120,7 +126,6 @@ pub fn read(
     if payloads.len() < points {
         return refusal(Answer::OUTPUT_SHORT);
     }
-    let scans = bytes[8] as usize;
     if lows.len() < scans {
         return refusal(Answer::OUTPUT_SHORT);
     }
@@ -128,7 +133,7 @@ pub fn read(
         return refusal(Answer::OUTPUT_SHORT);
     }
     let snapshot = word4(bytes, 3);
-    let at = fill_points(bytes, points, kinds, keys, payloads);
+    let at = fill_points(bytes, start, points, kinds, keys, payloads);
     fill_scans(bytes, at, scans, lows, highs);
     Reading {
         answer: Answer::COMMITTED,

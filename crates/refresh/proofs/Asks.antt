@@ -2,20 +2,18 @@
 -- Assumes nothing.
 use Prim.Native.Nat.{ℕ, _≤_}
 use mathlib.Core.Path.{_≡_, refl, sym, ap, _∙_}
-use mathlib.Core.Bool.{true}
 use mathlib.Core.Option.{Option, none, some}
 use mathlib.Core.List.{List, map}
 use native.Mathlib.Omega.{arith}
-use lib.ListN.{length, take, drop, replicate, length-map, length-append, length-replicate}
+use lib.ListN.{length, take, drop, length-map, length-append}
 use lib.Seq.{take-at}
-use borrow.Author.Tests.{le-leb}
 use Rattle.words.specs.Word.{Bytes}
 use Rattle.record.specs.declared.point.Scan.{Scan}
 use Rattle.record.specs.declared.reader.Reading.{Reading}
 use Rattle.record.specs.Answer.{committed, malformed}
 use Rattle.record.specs.Record.{Rec, Valid, keyOf}
 use Rattle.record.specs.Parse.{parse}
-use Rattle.record.specs.Reader.{Lists, ReadOutcome, readOutcome, lists, front, roomy, filled, readOf, lowOf, highOf}
+use Rattle.record.specs.Reader.{Lists, ReadOutcome, readOutcome, lists, front, RoomFor, filled, readOf, lowOf, highOf}
 use Rattle.record.proofs.RoundTrip.{bytesOf-parse}
 use Rattle.rules.specs.State.{State}
 use Rattle.rules.specs.Footprint.{reach}
@@ -38,25 +36,6 @@ front-taken vs l n e = take-at vs (drop (length vs) l) n (sym e)
 front-fits : (vs l : List ℕ) (n : ℕ) → n ≡ length vs → n ≤ length (front vs l)
 front-fits vs l n e = omega (arith, length-append vs (drop (length vs) l))
 
--- the lists have room for every record
-pub record RoomForEvery (l : Lists) : Type 0 where
-  pub kinds : 64 ≤ length (l .kinds)
-  pub keys : 64 ≤ length (l .keys)
-  pub payloads : 64 ≤ length (l .payloads)
-  pub lows : 8 ≤ length (l .lows)
-  pub highs : 8 ≤ length (l .highs)
-
--- as the five local arrays have
-pub arrays-roomy : RoomForEvery (lists (replicate 64 0) (replicate 64 0) (replicate 64 0) (replicate 8 0) (replicate 8 0))
-arrays-roomy =
-    record {
-      kinds = omega (arith, length-replicate {A = ℕ} 64 0);
-      keys = omega (arith, length-replicate {A = ℕ} 64 0);
-      payloads = omega (arith, length-replicate {A = ℕ} 64 0);
-      lows = omega (arith, length-replicate {A = ℕ} 8 0);
-      highs = omega (arith, length-replicate {A = ℕ} 8 0);
-    }
-
 -- the bytes are record r, and its lists stand at the fronts
 pub record Taken (bs : List ℕ) (a : Reading) (l : Lists) : Type 0 where
   pub r : Rec
@@ -70,20 +49,7 @@ pub record Taken (bs : List ℕ) (a : Reading) (l : Lists) : Type 0 where
   pub lows-inside : a .scans ≤ length (l .lows)
   pub highs-inside : a .scans ≤ length (l .highs)
 
-module _ (bs : List ℕ) (bytes : Bytes bs) (before after : Lists) (room : RoomForEvery before) (a : Reading) (e : readOutcome a after ≡ readOf (parse bs) before) where
-  -- a valid record finds room
-  finds-room : (r : Rec) → Valid r → roomy r before ≡ true
-  finds-room r v =
-      let p : length (r .points) ≤ 64 = v .few-points in
-      let c : length (r .scans) ≤ 8 = v .few-scans in
-      simp (
-        le-leb (length (r .points)) (length (before .kinds)) (omega arith),
-        le-leb (length (r .points)) (length (before .keys)) (omega arith),
-        le-leb (length (r .points)) (length (before .payloads)) (omega arith),
-        le-leb (length (r .scans)) (length (before .lows)) (omega arith),
-        le-leb (length (r .scans)) (length (before .highs)) (omega arith),
-      )
-
+module _ (bs : List ℕ) (bytes : Bytes bs) (before after : Lists) (room : RoomFor bs before) (a : Reading) (e : readOutcome a after ≡ readOf (parse bs) before) where
   -- what the reading of a record says
   abbrev readingOf : Rec → Reading
   readingOf r = record { answer = committed; snapshot = r .snapshot; points = length (r .points); scans = length (r .scans) }
@@ -91,7 +57,7 @@ module _ (bs : List ℕ) (bytes : Bytes bs) (before after : Lists) (room : RoomF
   -- a record was read
   was-read : (r : Rec) → parse bs ≡ some r → readOutcome a after ≡ readOutcome (readingOf r) (filled r before)
   unfolding readOf
-  was-read r p = e ∙ simp (p, finds-room r (bytesOf-parse bs r bytes p .0))
+  was-read r p = e ∙ simp (p, room r p)
 
   -- an answer other than 0 means that the bytes are no record
   pub none-taken : (a .answer .number ≡ 0 → ⊥) → parse bs ≡ none

@@ -9,7 +9,7 @@ use lib.ListN.{length, getD, take, drop, length-append}
 use lib.Seq.{sets, sets-eq, take-at, drop-at}
 use Rattle.words.specs.Word.{bigEndian, putWord}
 use Rattle.words.specs.Laws.{length-bigEndian, put-sets, byte-put}
-use Rattle.record.specs.Record.{Rec, version, pointsBytes, scansBytes, bodyBytes, bytesOf}
+use Rattle.record.specs.Record.{Rec, versionOf, pointsBytes, scansBytes, bodyBytes, bytesOf}
 use Rattle.record.proofs.Sizes.{body-size, whole-size}
 use Rattle.rules.specs.Refresh.{withSnapshot}
 
@@ -25,19 +25,20 @@ stored-behind head x y rest h e f =
 
 -- what stands behind the snapshot
 abbrev behind : Rec → List ℕ
-behind r = length (r .points) ∷ length (r .scans) ∷ (pointsBytes (r .points) ++ scansBytes (r .scans))
+behind r =
+    bigEndian (versionOf r) (length (r .points)) ++ (bigEndian (versionOf r) (length (r .scans)) ++ (pointsBytes (r .points) ++ scansBytes (r .scans)))
 
 -- a length, a version and a snapshot before it
-abbrev headed : ℕ → List ℕ → List ℕ → List ℕ
-headed n x rest = bigEndian 2 n ++ (version ∷ (x ++ rest))
+abbrev headed : ℕ → ℕ → List ℕ → List ℕ → List ℕ
+headed v n x rest = bigEndian 2 n ++ (v ∷ (x ++ rest))
 
 -- the same with what follows, the first three bytes by themselves
-apart : (n : ℕ) (x rest t : List ℕ) → headed n x rest ++ t ≡ (bigEndian 2 n ++ (version ∷ [])) ++ (x ++ (rest ++ t))
-apart n x rest t = simp append-assoc
+apart : (v n : ℕ) (x rest t : List ℕ) → headed v n x rest ++ t ≡ (bigEndian 2 n ++ (v ∷ [])) ++ (x ++ (rest ++ t))
+apart v n x rest t = simp append-assoc
 
 -- the snapshot does not change the length
 pub same-body : (p : ℕ) (r : Rec) → length (bodyBytes (withSnapshot p r)) ≡ length (bodyBytes r)
-same-body p r = body-size (withSnapshot p r) ∙ sym (body-size r)
+same-body p r = omega (arith, body-size (withSnapshot p r), body-size r)
 
 -- nor the size of the whole
 pub same-size : (p : ℕ) (r : Rec) → length (bytesOf (withSnapshot p r)) ≡ length (bytesOf r)
@@ -47,12 +48,13 @@ same-size p r = omega (arith, whole-size (withSnapshot p r), whole-size r, same-
 pub snapshot-stored : (p : ℕ) (r : Rec) (t : List ℕ) → putWord 4 (bytesOf r ++ t) 3 p ≡ bytesOf (withSnapshot p r) ++ t
 snapshot-stored p r t =
     let n : ℕ = length (bodyBytes r) in
-    let head : List ℕ = bigEndian 2 n ++ (version ∷ []) in
-    let three : length head ≡ 3 = omega (arith, length-append (bigEndian 2 n) (version ∷ []), length-bigEndian 2 n) in
-    put-sets 4 (bytesOf r ++ t) 3 p ∙ ap (λ (l : List ℕ). sets l 3 (bigEndian 4 p)) (apart n (bigEndian 4 (r .snapshot)) (behind r) t)
+    let v : ℕ = versionOf r in
+    let head : List ℕ = bigEndian 2 n ++ (v ∷ []) in
+    let three : length head ≡ 3 = omega (arith, length-append (bigEndian 2 n) (v ∷ []), length-bigEndian 2 n) in
+    put-sets 4 (bytesOf r ++ t) 3 p ∙ ap (λ (l : List ℕ). sets l 3 (bigEndian 4 p)) (apart v n (bigEndian 4 (r .snapshot)) (behind r) t)
     ∙ stored-behind head (bigEndian 4 (r .snapshot)) (bigEndian 4 p) (behind r ++ t) three (length-bigEndian 4 (r .snapshot)) (length-bigEndian 4 p)
-    ∙ sym (apart n (bigEndian 4 p) (behind r) t)
-    ∙ ap (λ (k : ℕ). headed k (bigEndian 4 p) (behind r) ++ t) (sym (same-body p r))
+    ∙ sym (apart v n (bigEndian 4 p) (behind r) t)
+    ∙ ap (λ (k : ℕ). headed v k (bigEndian 4 p) (behind r) ++ t) (sym (same-body p r))
 
 -- the record alone
 pub snapshot-put : (p : ℕ) (r : Rec) → bytesOf (withSnapshot p r) ≡ putWord 4 (bytesOf r) 3 p

@@ -49,7 +49,7 @@ tally-small f h (kind ∷ kinds) (k ∷ ks) es = omega (arith, small-adds f h ki
 pub lists-same : (m kinds ks : List ℕ) → Writable m kinds ks → length kinds ≡ length ks
 lists-same m kinds ks w = rw (w .kinds-are, w .keys-are) (length-map (w .r .points) kindOf ∙ sym (length-map (w .r .points) keyOf))
 
-pub lists-few : (m kinds ks : List ℕ) → Writable m kinds ks → length ks ≤ 64
+pub lists-few : (m kinds ks : List ℕ) → Writable m kinds ks → length ks ≤ 1024
 lists-few m kinds ks w = rw (w .keys-are) (omega (arith, length-map (w .r .points) keyOf, w .valid .few-points))
 
 pub position-left : (m kinds ks : List ℕ) (h : Header) → Writable m kinds ks → h ≡ headerAt m → h .position ≤ 4294967294
@@ -70,7 +70,7 @@ module _ (m kinds ks : List ℕ) (fit : Fit m) (w : Writable m kinds ks) (h : He
       let z : h .zone ≡ A .Z = ap (λ (x : Header). x .zone) e in
       record { limit-is = ap (λ (x : Header). x .limit) e; kept-is = ap (λ (x : Header). x .kept) e; old-limit-is = omega arith }
 
-  small : (h .kept ≤ 65536) × (t .absent ≤ 64) × (t .revived ≤ 64)
+  small : (h .kept ≤ 65536) × (t .absent ≤ 1024) × (t .revived ≤ 1024)
   small =
       let A = fit .arrangement in
       let i = fit .image in

@@ -100,10 +100,10 @@ module _ (m kinds ks : List ℕ) (limit : ℕ) where
           revived-so-far = λ A q. omega (arith, g .revived-so-far A q, turn (oneIfRevived limit) (stateOf A .kept), one A q .revived-is);
         }
 
-    pub fits-absent : length ks ≤ 64 → a + r .absent < 2 ^ 32
+    pub fits-absent : length ks ≤ 1024 → a + r .absent < 2 ^ 32
     fits-absent h = omega (arith, g .few-absent, small)
 
-    pub fits-revived : length ks ≤ 64 → v + r .revived < 2 ^ 32
+    pub fits-revived : length ks ≤ 1024 → v + r .revived < 2 ^ 32
     fits-revived h = omega (arith, g .few-revived, small)
 
   none-left : (f : Found → ℕ) (i : ℕ) (es : List Entry) → length ks ≤ i → length kinds ≡ length ks → tallyOf f (drop i kinds) (drop i ks) es ≡ 0

@@ -73,7 +73,7 @@ fn tally_point(pool: &[u8], kind: u8, key: u32, limit: u32) -> Tally
 // What all points add.
 pub fn tally_points(pool: &[u8], kinds: &[u8], keys: &[u32], limit: u32) -> Tally
     requires { ⌜ Fit (now pool) ⌝ }
-    requires { ⌜ (length (now kinds) ≡ length (now keys)) × (length (now keys) ≤ 64) ⌝ }
+    requires { ⌜ (length (now kinds) ≡ length (now keys)) × (length (now keys) ≤ 1024) ⌝ }
     ensures { λ r. ⌜ ((A : Arrangement) → Image (now (pool .entry)) A → TallyIs (now (kinds .entry)) (now (keys .entry)) limit (stateOf A .kept) r) ⌝ }
 {
     let mut absent: u32 = 0;

@@ -2,7 +2,8 @@
 -- Assumes nothing.
 use mathlib.Core.Path.{refl}
 use Rattle.words.specs.Word.{word, bigEndian}
-use Rattle.record.specs.Parse.{parse, stepPoint, stepScan, parsePoints, parseScans}
+use Rattle.record.specs.Record.{versionFor}
+use Rattle.record.specs.Parse.{parse, stepPoint, stepScan, parsePoints, parseScans, pointCount, scanCount, firstPoint, countsOk, headOk}
 use Rattle.rules.specs.Footprint.{reach, meets}
 use Rattle.rules.specs.Verdict.{hits, refusalOr, store, storeAll, young, drops, apply, count, judge, verdict, next}
 use Rattle.rules.specs.Log.{after}
@@ -11,5 +12,5 @@ use Rattle.rules.specs.Table.{Table, rows, run}
 
 -- the table holds
 pub table : Table
-unfolding word bigEndian parse stepPoint stepScan parsePoints parseScans reach meets hits refusalOr store storeAll young drops apply count judge verdict next after treeOf newest walk looksOf rows run
+unfolding word bigEndian versionFor parse stepPoint stepScan parsePoints parseScans pointCount scanCount firstPoint countsOk headOk reach meets hits refusalOr store storeAll young drops apply count judge verdict next after treeOf newest walk looksOf rows run
 table = record { written = refl; read = refl; melded = refl; kept-keys = refl; first = refl; second = refl }

@@ -11,7 +11,8 @@ use mathlib.Core.List.{List}
 use mathlib.Core.Option.{some}
 use lib.Dec.{T, ltb, ltb→lt, T-not}
 use lib.ListN.{length}
-use Rattle.record.specs.Record.{Rec, Valid}
+use Rattle.record.specs.Record.{Rec, Valid, versionOf}
+use Rattle.record.proofs.Versions.{by-version}
 use Rattle.record.specs.declared.point.Scan.{Scan}
 use Rattle.rules.specs.State.{State, Lawful}
 use Rattle.rules.specs.Footprint.{reach, meets}
@@ -107,6 +108,11 @@ unfolding looksOf
 looks-limit {S} {r} l v = looksFor-bound (walkOf S (some r) .looks) (65 + 64 * (length (r .points) + 2 * length (r .scans))) (verdict S (some r))
     (rw (← (marks-length r)) (looks-bound (r .snapshot) (reach r) (marksOf r) (marks-marked r (apart-ordered 0 (r .scans) (v .apart))) (treeOf-canonical 32 0 (l .rising))))
 
--- R37 of the fullest record: 5,185
-pub looks-fullest : {S : State} {r : Rec} → Lawful S → Valid r → looksOf S (some r) ≤ 5185
+-- R37 of the fullest record: 73,793
+pub looks-fullest : {S : State} {r : Rec} → Lawful S → Valid r → looksOf S (some r) ≤ 73793
 looks-fullest l v = omega (arith, looks-limit l v, v .few-points, v .few-scans)
+
+-- and of the fullest of version 1: 5,185
+pub looks-fullest-1 : {S : State} {r : Rec} → Lawful S → Valid r → versionOf r ≡ 1 → looksOf S (some r) ≤ 5185
+looks-fullest-1 {S} {r} l v e =
+    by-version (length (r .points)) (length (r .scans)) (λ p c _. omega (arith, looks-limit l v)) (λ f. absurd (omega (arith, sym e ∙ f)))

@@ -29,9 +29,13 @@ pub fn say_flaw(flaw: Flaw, size: usize) {
             say_number(size as u64);
             say(b"\n");
         }
-        Wrong::Version => say_with(b": version ", number, b", and there is only 1\n"),
-        Wrong::Points => say_with(b": ", number, b" points, and there may be 64\n"),
-        Wrong::Scans => say_with(b": ", number, b" scans, and there may be 8\n"),
+        Wrong::Version => say_with(b": version ", number, b", and there are only 1 and 2\n"),
+        Wrong::Counts => say(b": the record ends within its two counts\n"),
+        Wrong::PointsIn1 => say_with(b": ", number, b" points, and version 1 has up to 64\n"),
+        Wrong::ScansIn1 => say_with(b": ", number, b" scans, and version 1 has up to 8\n"),
+        Wrong::Points => say_with(b": ", number, b" points, and there may be 1024\n"),
+        Wrong::Scans => say_with(b": ", number, b" scans, and there may be 64\n"),
+        Wrong::Few => say(b": version 2, and up to 64 points and 8 scans have version 1\n"),
         Wrong::Kind => say_with(b": there is no kind ", number, b" of points\n"),
         Wrong::Key => say_with(b": key ", number, b" is not above the key before it\n"),
         Wrong::Low => say_with(

@@ -111,7 +111,7 @@ fn say_impossible(records: u32) {
         say(b"behind record ");
         say_number(records as u64);
     }
-    say(b" stands a length that no record has: 7 to 903 can be\n");
+    say(b" stands a length that no record has: 7 to 13,833 can be\n");
 }
 
 // Prints that the log is torn, or that a length in it is impossible, by the answer for it.

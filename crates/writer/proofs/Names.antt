@@ -15,7 +15,7 @@ use Rattle.record.specs.declared.point.Scan.{Scan}
 use Rattle.record.specs.Record.{Rec, keyOf, payloadOf, pointsBytes, PointsRise, Apart, Valid}
 use Rattle.record.specs.Reader.{Lists, lists, highOf}
 use Rattle.record.proofs.Cases.{by-case, and-split, no-some, took-or}
-use Rattle.writer.specs.Writer.{namedPoints, namedScans, recordOf, listsOf, Fitting}
+use Rattle.writer.specs.Writer.{namedPoints, namedScans, startFor, recordOf, listsOf, Fitting}
 use Rattle.writer.proofs.NamedLaws.{PointsInOrder, ScansInOrder, PointsNamed, ScansNamed, points-named, scans-named, points-own, scans-own}
 
 -- THE LISTS OF A RECORD NAME IT
@@ -25,8 +25,8 @@ pub recordOf-lists : (r : Rec) → Valid r → recordOf (r .snapshot) (listsOf r
 unfolding recordOf
 recordOf-lists r v =
     simp (
-      points-own (r .points) 0 9 (v .rising),
-      scans-own (r .scans) 0 (9 + length (pointsBytes (r .points))) (v .apart),
+      points-own (r .points) 0 (startFor (listsOf r)) (v .rising),
+      scans-own (r .scans) 0 (startFor (listsOf r) + length (pointsBytes (r .points))) (v .apart),
       le-leb _ _ (v .few-points),
       le-leb _ _ (v .few-scans),
     )
@@ -39,8 +39,8 @@ pub record ListsName (snapshot : ℕ) (l : Lists) (r : Rec) : Type 0 where
   pub lists-are : l ≡ listsOf r
   pub ordered : PointsInOrder 0 (r .points)
   pub stepped : ScansInOrder 0 (r .scans)
-  pub few-points : length (r .points) ≤ 64
-  pub few-scans : length (r .scans) ≤ 8
+  pub few-points : length (r .points) ≤ 1024
+  pub few-scans : length (r .scans) ≤ 64
 
 -- lists that agree in all five
 pub lists-same : (a b c d f a′ b′ c′ d′ f′ : List ℕ) → a ≡ a′ → b ≡ b′ → c ≡ c′ → d ≡ d′ → f ≡ f′ → lists a b c d f ≡ lists a′ b′ c′ d′ f′
@@ -54,11 +54,11 @@ same-some P q r e h = let z : q ≡ r = cc in subst P z h
 pub lists-name : (snapshot : ℕ) (l : Lists) (r : Rec) → recordOf snapshot l ≡ some r → ListsName snapshot l r
 unfolding recordOf
 lists-name snapshot l r e =
-    took-or (namedPoints 0 (l .kinds) (l .keys) (l .payloads) 9) (λ x. no-some (simp x at e)) λ ps at x.
+    took-or (namedPoints 0 (l .kinds) (l .keys) (l .payloads) (startFor l)) (λ x. no-some (simp x at e)) λ ps at x.
     took-or (namedScans 0 (l .lows) (l .highs) at) (λ y. no-some (simp (x, y) at e)) λ cs end y.
-    by-case (leb (length ps) 64 && leb (length cs) 8)
+    by-case (leb (length ps) 1024 && leb (length cs) 64)
     (λ v. same-some (ListsName snapshot l) (record { snapshot = snapshot; points = ps; scans = cs }) r (simp (x, y, v) at e)
-    (let p : PointsNamed 0 (l .kinds) (l .keys) (l .payloads) 9 ps at = points-named (l .kinds) (l .keys) (l .payloads) 0 9 ps at x in
+    (let p : PointsNamed 0 (l .kinds) (l .keys) (l .payloads) (startFor l) ps at = points-named (l .kinds) (l .keys) (l .payloads) 0 (startFor l) ps at x in
     let s : ScansNamed 0 (l .lows) (l .highs) at cs end = scans-named (l .lows) (l .highs) 0 at cs end y in
     and-split _ _ v λ v1 v2. record {
       snapshot-is = refl;
@@ -88,7 +88,7 @@ apart-of (c ∷ cs) low o f = (o .0, o .1, f 0, apart-of cs (c .high + 1) (o .2)
 
 -- together: a valid record
 valid-own : (snapshot : ℕ) (r : Rec) → Fitting snapshot (listsOf r) → r .snapshot ≡ snapshot → PointsInOrder 0 (r .points) → ScansInOrder 0 (r .scans)
-    → length (r .points) ≤ 64 → length (r .scans) ≤ 8 → Valid r
+    → length (r .points) ≤ 1024 → length (r .scans) ≤ 64 → Valid r
 valid-own snapshot r f e o s few-points few-scans =
     record {
       snapshot-fits = omega (arith, f .snapshot-fits);

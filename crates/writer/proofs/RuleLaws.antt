@@ -91,14 +91,14 @@ module _ (floor low high : ℕ) where
   scan-named-next l h = simp (le-ltb _ _ l, le-ltb _ _ h)
 
 -- the place past it stays small
-module _ (low kind key payload at i size : ℕ) (p : Point) (r : PointStep) (b : r ≡ Next p size) (is : r ≡ pointNamed low kind key payload) (h : at ≤ 9 + 13 * i) where
+module _ (low kind key payload at start i size : ℕ) (p : Point) (r : PointStep) (b : r ≡ Next p size) (is : r ≡ pointNamed low kind key payload) (h : at ≤ start + 13 * i) where
   -- 13 for each point at the most
-  pub named-place : at + size ≤ 9 + 13 * (i + 1)
+  pub named-place : at + size ≤ start + 13 * (i + 1)
   named-place = omega (arith, named-most low kind key payload p size (sym is ∙ b))
 
   -- so it fits a usize
-  pub named-fits : (n : ℕ) → i < n → n ≤ 64 → at + size < 2 ^ 64
-  named-fits n m k = omega (arith, named-most low kind key payload p size (sym is ∙ b))
+  pub named-fits : (n : ℕ) → i < n → n ≤ 1024 → start ≤ 11 → at + size < 2 ^ 64
+  named-fits n m k e = omega (arith, named-most low kind key payload p size (sym is ∙ b))
 
 -- A TURN OF THE LOOP OVER POINTS
 

@@ -12,12 +12,13 @@ use borrow.Author.Tests.{le-leb}
 use Rattle.record.specs.declared.point.Point.{Point}
 use Rattle.record.specs.declared.checker.End.{End}
 use Rattle.record.specs.declared.checker.End.the-variants as End
-use Rattle.record.specs.Record.{Rec, kindOf, keyOf, payloadOf, bytesOf}
+use Rattle.record.specs.Record.{Rec, kindOf, keyOf, payloadOf, bytesOf, versionFor, versionOf, headSize}
 use Rattle.record.specs.Parse.{took, endOf, listOf}
 use Rattle.record.specs.Reader.{Lists, lists, lowOf, highOf}
 use Rattle.record.proofs.Cases.{by-case, took-or, bad-end, took-at}
+use Rattle.record.proofs.Versions.{version-most}
 use Rattle.record.proofs.Sizes.{points-size-most, body-size, whole-size}
-use Rattle.writer.specs.Writer.{namedPoints, namedScans, recordOf, sizeEnd}
+use Rattle.writer.specs.Writer.{namedPoints, namedScans, startFor, recordOf, sizeEnd}
 use Rattle.writer.proofs.NamedLaws.{PointsNamed, ScansNamed, points-named, scans-named}
 use Rattle.writer.proofs.Names.{ListsName, lists-name}
 
@@ -49,9 +50,9 @@ lengths snapshot ks es xs ls hs r n =
 pub any-snapshot : (s t : ℕ) (l : Lists) → sizeEnd (recordOf s l) ≡ sizeEnd (recordOf t l)
 unfolding recordOf
 any-snapshot s t l =
-    took-or (namedPoints 0 (l .kinds) (l .keys) (l .payloads) 9) (λ x. simp x) λ ps at x.
+    took-or (namedPoints 0 (l .kinds) (l .keys) (l .payloads) (startFor l)) (λ x. simp x) λ ps at x.
     took-or (namedScans 0 (l .lows) (l .highs) at) (λ y. simp (x, y)) λ cs end y.
-    by-case (leb (length ps) 64 && leb (length cs) 8)
+    by-case (leb (length ps) 1024 && leb (length cs) 64)
     (λ v.
     let q : Rec = record { snapshot = s; points = ps; scans = cs } in
     let r : Rec = record { snapshot = t; points = ps; scans = cs } in
@@ -78,53 +79,68 @@ module _ (ks es xs ls hs : List ℕ) where
       refuse (recordOf 0 (lists ks es xs ls hs)) λ r e.
       let n = lengths 0 ks es xs ls hs r (lists-name 0 (lists ks es xs ls hs) r e) in h (n .highs-long ∙ sym (n .lows-long))
 
-  -- more than 64 points
-  pub size-points : 64 < length ks → End.Bad ≡ sizeEnd (recordOf 0 (lists ks es xs ls hs))
+  -- more than 1,024 points
+  pub size-points : 1024 < length ks → End.Bad ≡ sizeEnd (recordOf 0 (lists ks es xs ls hs))
   size-points h =
       refuse (recordOf 0 (lists ks es xs ls hs)) λ r e.
       let n = lists-name 0 (lists ks es xs ls hs) r e in omega (arith, n .few-points, (lengths 0 ks es xs ls hs r n) .kinds-long)
 
-  -- more than 8 scans
-  pub size-scans : 8 < length ls → End.Bad ≡ sizeEnd (recordOf 0 (lists ks es xs ls hs))
+  -- more than 64 scans
+  pub size-scans : 64 < length ls → End.Bad ≡ sizeEnd (recordOf 0 (lists ks es xs ls hs))
   size-scans h =
       refuse (recordOf 0 (lists ks es xs ls hs)) λ r e.
       let n = lists-name 0 (lists ks es xs ls hs) r e in omega (arith, n .few-scans, (lengths 0 ks es xs ls hs r n) .lows-long)
 
-  module _ (rp : End) (is-p : rp ≡ endOf (namedPoints 0 ks es xs 9)) where
+  -- it stands at 11 at the latest
+  pub start-most : (v : ℕ) → v ≡ versionFor (length ks) (length ls) → (start : ℕ) → start ≡ headSize v → start ≤ 11
+  start-most v e start i = omega (arith, version-most (length ks) (length ls))
+
+  module _ (v : ℕ) (is-v : v ≡ versionFor (length ks) (length ls)) (start : ℕ) (is-start : start ≡ headSize v)
+      (rp : End) (is-p : rp ≡ endOf (namedPoints 0 ks es xs start)) where
+    -- the first point stands there
+    here : start ≡ startFor (lists ks es xs ls hs)
+    here = is-start ∙ ap headSize is-v
+
     -- points that break a rule
     pub size-points-bad : rp ≡ End.Bad → End.Bad ≡ sizeEnd (recordOf 0 (lists ks es xs ls hs))
     unfolding recordOf
-    size-points-bad h = simp (bad-end (namedPoints 0 ks es xs 9) (sym is-p ∙ h))
+    size-points-bad h = simp (← here, bad-end (namedPoints 0 ks es xs start) (sym is-p ∙ h))
 
-    module _ (at : ℕ) (is-at : rp ≡ End.At at) (few-points : length ks ≤ 64) where
+    module _ (at : ℕ) (is-at : rp ≡ End.At at) (few-points : length ks ≤ 1024) where
       -- the points named
       ps : List Point
-      ps = listOf (namedPoints 0 ks es xs 9)
+      ps = listOf (namedPoints 0 ks es xs start)
 
       -- they were taken, up to a place
-      points-at : namedPoints 0 ks es xs 9 ≡ took ps at
+      points-at : namedPoints 0 ks es xs start ≡ took ps at
       unfolding ps
-      points-at = took-at (namedPoints 0 ks es xs 9) at (sym is-p ∙ is-at)
+      points-at = took-at (namedPoints 0 ks es xs start) at (sym is-p ∙ is-at)
 
       -- the lists are their own
-      points-are : PointsNamed 0 ks es xs 9 ps at
-      points-are = points-named ks es xs 0 9 ps at points-at
+      points-are : PointsNamed 0 ks es xs start ps at
+      points-are = points-named ks es xs 0 start ps at points-at
 
-      -- 64 at the most
-      points-few : length ps ≤ 64
-      points-few = omega (arith, ap length (points-are .kinds-are) ∙ length-map ps kindOf)
+      -- as many as kinds
+      points-long : length ks ≡ length ps
+      points-long = ap length (points-are .kinds-are) ∙ length-map ps kindOf
 
-      -- they end at 841 at the most
-      pub size-place : at ≤ 841
-      size-place = omega (arith, points-are .place, points-size-most ps, points-few)
+      -- 1,024 at the most
+      points-few : length ps ≤ 1024
+      points-few = omega (arith, points-long)
+
+      -- they end at 13,323 at the most
+      pub size-place : at ≤ 13323
+      size-place = omega (arith, points-are .place, points-size-most ps, points-few, start-most v is-v start is-start)
 
       -- with the scans behind them: the size, or a refusal
-      pub size-whole : (r : End) → r ≡ endOf (namedScans 0 ls hs at) → length ls ≤ 8 → r ≡ sizeEnd (recordOf 0 (lists ks es xs ls hs))
+      pub size-whole : (r : End) → r ≡ endOf (namedScans 0 ls hs at) → length ls ≤ 64 → r ≡ sizeEnd (recordOf 0 (lists ks es xs ls hs))
       unfolding recordOf
       size-whole r is few-scans =
-          took-or (namedScans 0 ls hs at) (λ y. is ∙ simp (points-at, y)) λ cs end y.
+          took-or (namedScans 0 ls hs at) (λ y. is ∙ simp (← here, points-at, y)) λ cs end y.
           let s : ScansNamed 0 ls hs at cs end = scans-named ls hs 0 at cs end y in
           let q : Rec = record { snapshot = 0; points = ps; scans = cs } in
-          let few : length cs ≤ 8 = omega (arith, ap length (s .lows-are) ∙ length-map cs lowOf) in
-          let n : end ≡ length (bytesOf q) = omega (arith, s .place, points-are .place, whole-size q, body-size q) in
-          is ∙ simp (points-at, y, le-leb _ _ points-few, le-leb _ _ few) (ap End.At n)
+          let scans-long : length ls ≡ length cs = ap length (s .lows-are) ∙ length-map cs lowOf in
+          let few : length cs ≤ 64 = omega (arith, scans-long) in
+          let version-is : v ≡ versionOf q = is-v ∙ rw (points-long, scans-long) in
+          let n : end ≡ length (bytesOf q) = omega (arith, s .place, points-are .place, whole-size q, body-size q, is-start ∙ ap headSize version-is) in
+          is ∙ simp (← here, points-at, y, le-leb _ _ points-few, le-leb _ _ few) (ap End.At n)

@@ -1,7 +1,7 @@
 -- What the second pass meets: stores one behind the other are one run of stores, and each turn of a loop leaves the rest of the run.
 -- Assumes nothing.
-use Prim.Native.Nat.{ℕ, suc, _+_, _^_, _≤_, _<_}
-use mathlib.Core.Path.{_≡_, sym, ap, _∙_}
+use Prim.Native.Nat.{ℕ, suc, _+_, _%_, _^_, _≤_, _<_}
+use mathlib.Core.Path.{_≡_, sym, ap, _∙_, subst}
 use mathlib.Core.Bool.{cond}
 use mathlib.Core.List.{List, [], _∷_, _++_, append-nil}
 use native.Mathlib.Omega.{arith}
@@ -12,6 +12,7 @@ use lib.Dec.{eqb}
 use borrow.Author.Tests.{ne-eqb}
 use Rattle.words.specs.Word.{bigEndian, putWord}
 use Rattle.words.specs.Laws.{length-bigEndian, length-put, put-sets, sets-append}
+use Rattle.record.specs.Record.{headSize}
 use Rattle.writer.specs.Stored.{headBytes, storedPoint, storedPoints, storedScan, storedScans}
 
 -- A NUMBER STORED IS A RUN OF STORES (`put-sets`)
@@ -20,39 +21,82 @@ use Rattle.writer.specs.Stored.{headBytes, storedPoint, storedPoints, st
 behind : (k x : ℕ) (vs s : List ℕ) (at : ℕ) → sets s at (bigEndian k x ++ vs) ≡ sets (sets s at (bigEndian k x)) (at + k) vs
 behind k x vs s at = sets-append (bigEndian k x) vs s at ∙ ap (λ (n : ℕ). sets (sets s at (bigEndian k x)) (at + n) vs) (length-bigEndian k x)
 
+-- A COUNT
+
+-- it is 1 or 2
+pub two-left : (v : ℕ) → 1 ≤ v → v ≤ 2 → (v ≡ 1 → ⊥) → v ≡ 2
+two-left v a b n = omega arith
+
+module _ (v at count : ℕ) (s : List ℕ) where
+  -- in one byte
+  pub count-one : v ≡ 1 → count < 256 ^ v → set s at count ≡ putWord v s at count
+  unfolding bigEndian putWord
+  count-one e h =
+      let below : count < 256 = subst (λ (n : ℕ). count < 256 ^ n) e h in
+      let byte : count % 256 ≡ count = omega arith in
+      sym (ap (λ (n : ℕ). putWord n s at count) e ∙ ap (set s at) byte)
+
+  -- in two
+  pub count-two : 1 ≤ v → v ≤ 2 → (v ≡ 1 → ⊥) → (r : List ℕ) → r ≡ putWord 2 s at count → r ≡ putWord v s at count
+  count-two a b n r e = let two : v ≡ 2 = two-left v a b n in e ∙ ap (λ (m : ℕ). putWord m s at count) (sym two)
+
+-- there is room for it, and it fits
+pub one-room : (v at n : ℕ) → v ≡ 1 → at + v ≤ n → at < n
+one-room v at n e h = omega arith
+
+pub one-fits : (v count : ℕ) → v ≡ 1 → count < 256 ^ v → count < 2 ^ 8
+one-fits v count e h = let z : count < 256 = subst (λ (n : ℕ). count < 256 ^ n) e h in omega arith
+
+pub two-room : (v at n : ℕ) → 1 ≤ v → v ≤ 2 → (v ≡ 1 → ⊥) → at + v ≤ n → at + 2 ≤ n
+two-room v at n a b d h = omega (arith, two-left v a b d)
+
+pub two-fits : (v count : ℕ) → 1 ≤ v → v ≤ 2 → (v ≡ 1 → ⊥) → count < 256 ^ v → count < 65536
+two-fits v count a b n h = let z : count < 256 ^ 2 = subst (λ (m : ℕ). count < 256 ^ m) (two-left v a b n) h in omega arith
+
 -- THE HEAD
 
-module _ (s o q : List ℕ) (i n x a b : ℕ) (first : o ≡ putWord 2 s i n) where
+module _ (s o q : List ℕ) (i n v x : ℕ) (first : o ≡ putWord 2 s i n) where
   -- the length is as before
   length-first : length o ≡ length s
   length-first = ap length first ∙ length-put 2 s i n
 
   -- there is room for the snapshot
-  pub head-snapshot : 9 ≤ length s → 3 + 4 ≤ length (set o 2 1)
+  pub head-snapshot : headSize v ≤ length s → 3 + 4 ≤ length (set o 2 v)
   head-snapshot h = simp length-set (omega (arith, length-first))
 
-  module _ (j : ℕ) (second : q ≡ putWord 4 (set o 2 1) j x) where
+  module _ (j : ℕ) (second : q ≡ putWord 4 (set o 2 v) j x) where
     -- the length is as before
     length-second : length q ≡ length s
-    length-second = ap length second ∙ length-put 4 (set o 2 1) j x ∙ length-set o 2 1 ∙ length-first
+    length-second = ap length second ∙ length-put 4 (set o 2 v) j x ∙ length-set o 2 v ∙ length-first
 
     -- there is room for the number of points
-    pub head-points : 9 ≤ length s → 7 < length q
+    pub head-points : headSize v ≤ length s → 7 + v ≤ length q
     head-points h = omega (arith, length-second)
 
-    -- there is room for the number of scans
-    pub head-scans : 9 ≤ length s → 8 < length (set q 7 a)
-    head-scans h = simp length-set (omega (arith, length-second))
+    module _ (k a : ℕ) (p : List ℕ) (third : p ≡ putWord v q k a) where
+      -- the length is as before
+      length-third : length p ≡ length s
+      length-third = ap length third ∙ length-put v q k a ∙ length-second
 
-    -- the length is as before
-    pub head-same : length (set (set q 7 a) 8 b) ≡ length s
-    head-same = simp length-set length-second
+      -- there is room for the number of scans
+      pub head-scans : headSize v ≤ length s → 7 + v + v ≤ length p
+      head-scans h = omega (arith, length-third)
+
+      -- the length is as before
+      pub head-same : (l b : ℕ) (c : List ℕ) → c ≡ putWord v p l b → length c ≡ length s
+      head-same l b c e = ap length e ∙ length-put v p l b ∙ length-third
 
 -- the five stores are the head
-pub head-stored : (s o q : List ℕ) (n x a b : ℕ) → o ≡ putWord 2 s 0 n → q ≡ putWord 4 (set o 2 1) 3 x → set (set q 7 a) 8 b ≡ sets s 0 (headBytes n x a b)
-head-stored s o q n x a b first second =
-    ap (λ (l : List ℕ). set (set l 7 a) 8 b) (second ∙ put-sets 4 (set o 2 1) 3 x ∙ ap (λ (l : List ℕ). sets (set l 2 1) 3 (bigEndian 4 x)) (first ∙ put-sets 2 s 0 n))
-    ∙ sym (behind 2 n (1 ∷ (bigEndian 4 x ++ (a ∷ b ∷ []))) s 0 ∙ behind 4 x (a ∷ b ∷ []) (set (sets s 0 (bigEndian 2 n)) 2 1) 3)
+pub head-stored : (s o q p c : List ℕ) (n v x a b : ℕ) → o ≡ putWord 2 s 0 n → q ≡ putWord 4 (set o 2 v) 3 x → p ≡ putWord v q 7 a → c ≡ putWord v p (7 + v) b
+    → c ≡ sets s 0 (headBytes v n x a b)
+head-stored s o q p c n v x a b first second third last =
+    let t : List ℕ = set (sets s 0 (bigEndian 2 n)) 2 v in
+    let u : List ℕ = sets t 3 (bigEndian 4 x) in
+    let second′ : q ≡ u = second ∙ put-sets 4 (set o 2 v) 3 x ∙ ap (λ (l : List ℕ). sets (set l 2 v) 3 (bigEndian 4 x)) (first ∙ put-sets 2 s 0 n) in
+    let third′ : p ≡ sets u 7 (bigEndian v a) = third ∙ put-sets v q 7 a ∙ ap (λ (l : List ℕ). sets l 7 (bigEndian v a)) second′ in
+    last ∙ put-sets v p (7 + v) b ∙ ap (λ (l : List ℕ). sets l (7 + v) (bigEndian v b)) third′
+    ∙ sym (behind 2 n (v ∷ (bigEndian 4 x ++ (bigEndian v a ++ bigEndian v b))) s 0 ∙ behind 4 x (bigEndian v a ++ bigEndian v b) t 3
+    ∙ behind v a (bigEndian v b) u 7)
 
 -- ONE POINT
 

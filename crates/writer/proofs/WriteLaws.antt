@@ -11,9 +11,10 @@ use borrow.Author.Tests.{le-leb, lt-leb}
 use Rattle.record.specs.declared.checker.End.{End}
 use Rattle.record.specs.declared.checker.End.the-variants as End
 use Rattle.record.specs.Answer.{committed, malformed, outputShort}
-use Rattle.record.specs.Record.{Rec, pointsBytes, scansBytes, bodyBytes, bytesOf}
+use Rattle.record.specs.Record.{Rec, pointsBytes, scansBytes, bodyBytes, bytesOf, versionFor, versionOf, headSize}
 use Rattle.record.specs.Reader.{Lists, lists, front}
 use Rattle.record.proofs.ReadLaws.{sets-front}
+use Rattle.record.proofs.Versions.{version-least, version-most, counts-fit}
 use Rattle.record.proofs.Sizes.{points-size-most, scans-bytes-size, body-size, whole-size}
 use Rattle.writer.specs.declared.Written.{Written}
 use Rattle.writer.specs.Writer.{recordOf, writeOutcome, writeRefused, writeOf, sizeEnd}
@@ -70,21 +71,35 @@ module _ (ks es xs ls hs : List ℕ) (size : ℕ) (e : End) (at-size : e ≡ End
   stored-scans : storedScans ls hs ≡ scansBytes (r .scans)
   stored-scans = ap (λ (l : Lists). storedScans (l .lows) (l .highs)) (names .lists-are) ∙ scans-bytes-own (r .scans)
 
+  -- its version is that of the lists
+  version-is : versionFor (length ks) (length ls) ≡ versionOf r
+  version-is = rw (long .kinds-long, long .lows-long)
+
   -- head, points and scans make up the size
-  size-sum : size ≡ 9 + length (storedPoints ks es xs) + length (storedScans ls hs)
-  size-sum = omega (arith, size-is, whole-size r, body-size r, ap length stored-points, ap length stored-scans)
+  size-sum : size ≡ headSize (versionFor (length ks) (length ls)) + length (storedPoints ks es xs) + length (storedScans ls hs)
+  size-sum = omega (arith, size-is, whole-size r, body-size r, ap length stored-points, ap length stored-scans, ap headSize version-is)
 
-  -- 905 at the most
-  size-most : size ≤ 905
+  -- 13,835 at the most
+  size-most : size ≤ 13835
   size-most =
-      omega (arith, size-is, whole-size r, body-size r, points-size-most (r .points), scans-bytes-size (r .scans), names .few-points, names .few-scans)
+      omega (
+        arith,
+        size-is,
+        whole-size r,
+        body-size r,
+        points-size-most (r .points),
+        scans-bytes-size (r .scans),
+        names .few-points,
+        names .few-scans,
+        version-most (length (r .points)) (length (r .scans)),
+      )
 
-  -- 64 points at the most
-  few-points : length ks ≤ 64
+  -- 1,024 points at the most
+  few-points : length ks ≤ 1024
   few-points = omega (arith, long .kinds-long, names .few-points)
 
-  -- 8 scans at the most
-  few-scans : length ls ≤ 8
+  -- 64 scans at the most
+  few-scans : length ls ≤ 64
   few-scans = omega (arith, long .lows-long, names .few-scans)
 
   -- a key for each kind
@@ -104,7 +119,7 @@ module _ (ks es xs ls hs : List ℕ) (size : ℕ) (e : End) (at-size : e ≡ End
 module _ (ks es xs ls hs : List ℕ) (size : ℕ) (e : End) (at-size : e ≡ End.At size)
     (is : e ≡ sizeEnd (recordOf 0 (lists ks es xs ls hs))) where
   -- head, points and scans make up the size
-  sum : size ≡ 9 + length (storedPoints ks es xs) + length (storedScans ls hs)
+  sum : size ≡ headSize (versionFor (length ks) (length ls)) + length (storedPoints ks es xs) + length (storedScans ls hs)
   sum = size-sum ks es xs ls hs size e at-size is 0
 
   -- the length's own two bytes are in the size
@@ -119,12 +134,11 @@ module _ (ks es xs ls hs : List ℕ) (size : ℕ) (e : End) (at-size : e ≡ End
   pub write-length-fits : (k : ℕ) → size - k < 2 ^ 32
   write-length-fits k = omega (arith, size-most ks es xs ls hs size e at-size is 0)
 
-  -- the number of points fits a byte
-  pub write-points-fit : length ks < 2 ^ 8
+  -- so do the numbers of points and scans
+  pub write-points-fit : length ks < 2 ^ 32
   write-points-fit = omega (arith, few-points ks es xs ls hs size e at-size is 0)
 
-  -- the number of scans fits a byte
-  pub write-scans-fit : length ls < 2 ^ 8
+  pub write-scans-fit : length ls < 2 ^ 32
   write-scans-fit = omega (arith, few-scans ks es xs ls hs size e at-size is 0)
 
   -- a key for each kind
@@ -139,23 +153,42 @@ module _ (ks es xs ls hs : List ℕ) (size : ℕ) (e : End) (at-size : e ≡ End
   pub write-highs-same : length hs ≡ length ls
   write-highs-same = highs-same ks es xs ls hs size e at-size is 0
 
-  -- there is room for the head
-  pub write-nine : (o : List ℕ) → size ≤ length o → 9 ≤ length o
-  write-nine o room = omega (arith, sum)
+  module _ (v : ℕ) (is-v : v ≡ versionFor (length ks) (length ls)) where
+    -- the version is 1 or 2
+    pub write-version-least : 1 ≤ v
+    write-version-least = omega (arith, version-least (length ks) (length ls))
 
-  module _ (snapshot : ℕ) (o h : List ℕ) (head : h ≡ sets o 0 (headBytes (size - 2) snapshot (length ks) (length ls))) (room : size ≤ length o) where
-    -- the head leaves the length as it was
-    head-length : length h ≡ length o
-    head-length = ap length head ∙ length-sets o 0 (headBytes (size - 2) snapshot (length ks) (length ls))
+    pub write-version-most : v ≤ 2
+    write-version-most = omega (arith, version-most (length ks) (length ls))
 
-    -- there is room for the points
-    pub write-points-room : 9 + length (storedPoints ks es xs) ≤ length h
-    write-points-room = omega (arith, sum, head-length)
+    -- its counts have room for these
+    pub write-points-width : length ks < 256 ^ v
+    write-points-width =
+        rw is-v (counts-fit (length ks) (length ls) (few-points ks es xs ls hs size e at-size is 0) (few-scans ks es xs ls hs size e at-size is 0) .0)
 
-    -- there is room for the scans behind them
-    pub write-scans-room : (p : List ℕ) (at : ℕ) → at ≡ 9 + length (storedPoints ks es xs) → p ≡ sets h 9 (storedPoints ks es xs)
-        → at + length (storedScans ls hs) ≤ length p
-    write-scans-room p at place points = omega (arith, sum, ap length points ∙ length-sets h 9 (storedPoints ks es xs) ∙ head-length)
+    pub write-scans-width : length ls < 256 ^ v
+    write-scans-width =
+        rw is-v (counts-fit (length ks) (length ls) (few-points ks es xs ls hs size e at-size is 0) (few-scans ks es xs ls hs size e at-size is 0) .1)
+
+    -- there is room for the head
+    pub write-head-room : (o : List ℕ) → size ≤ length o → headSize v ≤ length o
+    write-head-room o room = omega (arith, sum, ap headSize is-v)
+
+    module _ (snapshot : ℕ) (o h : List ℕ) (head : h ≡ sets o 0 (headBytes v (size - 2) snapshot (length ks) (length ls))) (room : size ≤ length o)
+        (start : ℕ) (first : start ≡ headSize v) where
+      -- the head leaves the length as it was
+      head-length : length h ≡ length o
+      head-length = ap length head ∙ length-sets o 0 (headBytes v (size - 2) snapshot (length ks) (length ls))
+
+      -- there is room for the points
+      pub write-points-room : start + length (storedPoints ks es xs) ≤ length h
+      write-points-room = omega (arith, sum, head-length, ap headSize is-v)
+
+      -- there is room for the scans behind them
+      pub write-scans-room : (p : List ℕ) (at : ℕ) → at ≡ start + length (storedPoints ks es xs) → p ≡ sets h start (storedPoints ks es xs)
+          → at + length (storedScans ls hs) ≤ length p
+      write-scans-room p at place points =
+          omega (arith, sum, ap headSize is-v, ap length points ∙ length-sets h start (storedPoints ks es xs) ∙ head-length)
 
 -- THE RETURNS
 
@@ -191,8 +224,9 @@ module _ (ks es xs ls hs : List ℕ) (size : ℕ) (e : End) (at-size : e ≡ End
   unfolding whole
   size-whole = size-is ks es xs ls hs size e at-size is snapshot
 
-  module _ (o h p q : List ℕ) (at : ℕ) (scans : q ≡ sets p at (storedScans ls hs)) (points : p ≡ sets h 9 (storedPoints ks es xs))
-      (place : at ≡ 9 + length (storedPoints ks es xs)) (head : h ≡ sets o 0 (headBytes (size - 2) snapshot (length ks) (length ls))) (room : size ≤ length o) where
+  module _ (o h p q : List ℕ) (v start at : ℕ) (is-v : v ≡ versionFor (length ks) (length ls)) (first : start ≡ headSize v)
+      (scans : q ≡ sets p at (storedScans ls hs)) (points : p ≡ sets h start (storedPoints ks es xs))
+      (place : at ≡ start + length (storedPoints ks es xs)) (head : h ≡ sets o 0 (headBytes v (size - 2) snapshot (length ks) (length ls))) (room : size ≤ length o) where
     -- the three stores are its bytes
     bytes-stored : q ≡ sets o 0 (bytesOf whole)
     unfolding whole
@@ -201,13 +235,14 @@ module _ (ks es xs ls hs : List ℕ) (size : ℕ) (e : End) (at-size : e ≡ End
         let l : Lengths ks es xs ls hs whole = lengths snapshot ks es xs ls hs whole named-whole in
         let sp : storedPoints ks es xs ≡ pointsBytes (whole .points) = stored-points ks es xs ls hs size e at-size is snapshot in
         let ss : storedScans ls hs ≡ scansBytes (whole .scans) = stored-scans ks es xs ls hs size e at-size is snapshot in
-        stored-whole whole o h p q at
-        (head ∙ ap (sets o 0) (head-same (size - 2) (length (bodyBytes whole)) snapshot (whole .snapshot) (length ks) (length (whole .points)) (length ls) (length (whole .scans))
-        body (sym (named-whole .snapshot-is)) (l .kinds-long) (l .lows-long)))
-        (points ∙ ap (sets h 9) sp) (place ∙ ap (λ (b : List ℕ). 9 + length b) sp) (scans ∙ ap (sets p at) ss)
+        let version : v ≡ versionOf whole = is-v ∙ version-is ks es xs ls hs size e at-size is snapshot in
+        stored-whole whole o h p q start at
+        (head ∙ ap (sets o 0) (head-same v (versionOf whole) (size - 2) (length (bodyBytes whole)) snapshot (whole .snapshot) (length ks) (length (whole .points)) (length ls) (length (whole .scans))
+        version body (sym (named-whole .snapshot-is)) (l .kinds-long) (l .lows-long))) (first ∙ ap headSize version)
+        (points ∙ ap (sets h start) sp) (place ∙ ap (λ (b : List ℕ). start + length b) sp) (scans ∙ ap (sets p at) ss)
       where
-        head-same : (n m s t a b c d : ℕ) → n ≡ m → s ≡ t → a ≡ b → c ≡ d → headBytes n s a c ≡ headBytes m t b d
-        head-same n m s t a b c d i j k f = rw (i, j, k, f)
+        head-same : (f g n m s t a b c d : ℕ) → f ≡ g → n ≡ m → s ≡ t → a ≡ b → c ≡ d → headBytes f n s a c ≡ headBytes g m t b d
+        head-same f g n m s t a b c d y i j k z = rw (y, i, j, k, z)
 
     -- the record is written
     pub write-whole : writeOutcome (record { answer = committed; size = size }) q ≡ writeOf (recordOf snapshot (lists ks es xs ls hs)) o

@@ -5,10 +5,12 @@ use mathlib.Core.List.{List, [], _∷_, _++_}
 use lib.Dec.{eqb}
 use Rattle.words.specs.Choice.{if_then_else_}
 use Rattle.words.specs.Word.{bigEndian}
+use Rattle.record.specs.Record.{countWidth}
 
--- the nine bytes before the points
-abbrev pub headBytes : ℕ → ℕ → ℕ → ℕ → List ℕ
-headBytes size snapshot points scans = bigEndian 2 size ++ (1 ∷ (bigEndian 4 snapshot ++ (points ∷ scans ∷ [])))
+-- the bytes before the points
+abbrev pub headBytes : ℕ → ℕ → ℕ → ℕ → ℕ → List ℕ
+headBytes version size snapshot points scans =
+    bigEndian 2 size ++ (version ∷ (bigEndian 4 snapshot ++ (bigEndian (countWidth version) points ++ bigEndian (countWidth version) scans)))
 
 -- a kind, a key and, for a put, a payload
 unfoldable pub storedPoint : ℕ → ℕ → ℕ → List ℕ

@@ -19,7 +19,7 @@ use Rattle.record.specs.declared.checker.ScanStep.the-variants as ScanStep
 use Rattle.record.specs.declared.checker.End.{End}
 use Rattle.record.specs.declared.checker.End.the-variants as End
 use Rattle.record.specs.Answer.{committed, malformed, outputShort}
-use Rattle.record.specs.Record.{Rec, kindOf, keyOf, payloadOf, maxPoints, maxScans, bytesOf}
+use Rattle.record.specs.Record.{Rec, kindOf, keyOf, payloadOf, maxPoints, maxScans, versionFor, headSize, bytesOf}
 use Rattle.record.specs.Parse.{Parsed, bad, took, afterPoint, afterScan, onTook}
 use Rattle.record.specs.Reader.{Lists, lists, lowOf, highOf, front}
 use Rattle.writer.specs.declared.Written.{Written}
@@ -58,10 +58,14 @@ namedScans floor [] (h ∷ hs) at = bad
 namedScans floor (l ∷ ls) [] at = bad
 namedScans floor (l ∷ ls) (h ∷ hs) at = afterScan (scanNamed floor l h) (λ c. namedScans (c .high + 1) ls hs (at + 8))
 
+-- R4, R53: where the first point stands in the version for as many points and scans as the lists have
+abbrev pub startFor : Lists → ℕ
+startFor l = headSize (versionFor (length (l .kinds)) (length (l .lows)))
+
 -- R10: the record that the lists name, if they keep every rule
 unfoldable pub recordOf : ℕ → Lists → Option Rec
 recordOf snapshot l =
-    onTook (namedPoints 0 (l .kinds) (l .keys) (l .payloads) 9) λ ps at.
+    onTook (namedPoints 0 (l .kinds) (l .keys) (l .payloads) (startFor l)) λ ps at.
     onTook (namedScans 0 (l .lows) (l .highs) at) λ cs end.
     if leb (length ps) maxPoints && leb (length cs) maxScans then some (record { snapshot = snapshot; points = ps; scans = cs }) else none
 

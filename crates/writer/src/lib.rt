@@ -5,6 +5,8 @@ mod store;
 
 use record::Answer;
 use record::End;
+use record::head_size;
+use record::version_for;
 use rules::named_size;
 use store::put_head;
 use store::put_points;
@@ -47,14 +49,16 @@ pub fn write(
     if output.len() < size {
         return refusal(Answer::OUTPUT_SHORT);
     }
+    let version = version_for(kinds.len(), lows.len());
     put_head(
         output,
         (size - 2) as u32,
+        version,
         snapshot,
-        kinds.len() as u8,
-        lows.len() as u8,
+        kinds.len() as u32,
+        lows.len() as u32,
     );
-    let at = put_points(kinds, keys, payloads, output);
+    let at = put_points(kinds, keys, payloads, head_size(version), output);
     put_scans(lows, highs, at, output);
     Written {
         answer: Answer::COMMITTED,

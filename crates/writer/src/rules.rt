@@ -4,8 +4,10 @@ use record::Point;
 use record::PointStep;
 use record::Scan;
 use record::ScanStep;
+use record::head_size;
 use record::limits::MAX_POINTS;
 use record::limits::MAX_SCANS;
+use record::version_for;
 ghost use mathlib.Core.Path.{_≡_};
 ghost use Prim.Native.Nat.{_≤_};
 ghost use lib.ListN.{length};
@@ -57,12 +59,12 @@ fn scan_named(low: u32, high: u32, floor: u64) -> ScanStep
     ScanStep::Next(Scan { low, high })
 }
 
-// Where the bytes of the points that the lists name end.
-fn points_end(kinds: &[u8], keys: &[u32], payloads: &[u64]) -> End
-    requires { ⌜ (length (now keys) ≡ length (now kinds)) × (length (now payloads) ≡ length (now kinds)) × (length (now kinds) ≤ 64) ⌝ }
-    ensures { λ r. ⌜ r ≡ endOf (namedPoints 0 (now (kinds .entry)) (now (keys .entry)) (now (payloads .entry)) 9) ⌝ }
+// Where the bytes of the points that the lists name end, if they start at `start`.
+fn points_end(kinds: &[u8], keys: &[u32], payloads: &[u64], start: usize) -> End
+    requires { ⌜ (length (now keys) ≡ length (now kinds)) × (length (now payloads) ≡ length (now kinds)) × (length (now kinds) ≤ 1024) × (start ≤ 11) ⌝ }
+    ensures { λ r. ⌜ r ≡ endOf (namedPoints 0 (now (kinds .entry)) (now (keys .entry)) (now (payloads .entry)) start) ⌝ }
 {
-    let mut at: usize = 9;
+    let mut at = start;
     let mut low: u64 = 0;
     let mut i: usize = 0;
     while i < kinds.len() {
@@ -79,7 +81,7 @@ fn points_end(kinds: &[u8], keys: &[u32], payloads: &[u64]) -> End
 
 // Where the bytes of the scans that the lists name end, if they start at `start`.
 fn scans_end(lows: &[u32], highs: &[u32], start: usize) -> End
-    requires { ⌜ (length (now highs) ≡ length (now lows)) × (length (now lows) ≤ 8) × (start ≤ 841) ⌝ }
+    requires { ⌜ (length (now highs) ≡ length (now lows)) × (length (now lows) ≤ 64) × (start ≤ 13323) ⌝ }
     ensures { λ r. ⌜ r ≡ endOf (namedScans 0 (now (lows .entry)) (now (highs .entry)) start) ⌝ }
 {
     let mut at = start;
@@ -116,7 +118,8 @@ pub fn named_size(kinds: &[u8], keys: &[u32], payloads: &[u64], lows: &[u32], hi
     if MAX_SCANS < lows.len() {
         return End::Bad;
     }
-    let End::At(at) = points_end(kinds, keys, payloads) else {
+    let start = head_size(version_for(kinds.len(), lows.len()));
+    let End::At(at) = points_end(kinds, keys, payloads, start) else {
         return End::Bad;
     };
     scans_end(lows, highs, at)

@@ -1,24 +1,39 @@
 // Storing a record's bytes. The lists are known to keep the rules.
-use record::limits::VERSION;
+use record::limits::VERSION_1;
 use words::put2;
 use words::put4;
 use words::put8;
 ghost use mathlib.Core.Path.{_≡_};
-ghost use Prim.Native.Nat.{_+_, _≤_, _<_};
+ghost use Prim.Native.Nat.{_+_, _^_, _≤_, _<_};
 ghost use lib.ListN.{length};
 ghost use lib.Seq.{sets};
+ghost use Rattle.words.specs.Word.{putWord};
+ghost use Rattle.record.specs.Record.{headSize};
 ghost use Rattle.writer.specs.Stored.{headBytes, storedPoint, storedPoints, storedScan, storedScans};
 
+// Stores a count: in one byte in version 1, else in two.
+fn put_count(output: &mut [u8], at: usize, version: u8, count: u32)
+    requires { ⌜ (1 ≤ version) × (version ≤ 2) × (at + version ≤ length (now output)) × (count < 256 ^ version) ⌝ }
+    ensures { λ _. ⌜ now (output .exit) ≡ putWord version (now (output .entry)) at count ⌝ }
+{
+    if version == VERSION_1 {
+        output[at] = count as u8;
+        return;
+    }
+    put2(output, at, count);
+}
+
 // Stores what stands before the points: length, version, snapshot and the two counts. `size` is what the length says.
-pub fn put_head(output: &mut [u8], size: u32, snapshot: u32, points: u8, scans: u8)
-    requires { ⌜ (9 ≤ length (now output)) × (size < 65536) ⌝ }
-    ensures { λ _. ⌜ now (output .exit) ≡ sets (now (output .entry)) 0 (headBytes size snapshot points scans) ⌝ }
+pub fn put_head(output: &mut [u8], size: u32, version: u8, snapshot: u32, points: u32, scans: u32)
+    requires { ⌜ (headSize version ≤ length (now output)) × (size < 65536) ⌝ }
+    requires { ⌜ (1 ≤ version) × (version ≤ 2) × (points < 256 ^ version) × (scans < 256 ^ version) ⌝ }
+    ensures { λ _. ⌜ now (output .exit) ≡ sets (now (output .entry)) 0 (headBytes version size snapshot points scans) ⌝ }
 {
     put2(output, 0, size);
-    output[2] = VERSION;
+    output[2] = version;
     put4(output, 3, snapshot);
-    output[7] = points;
-    output[8] = scans;
+    put_count(output, 7, version, points);
+    put_count(output, 7 + (version as usize), version, scans);
 }
 
 // Stores one point, and gives the place past it.
@@ -36,15 +51,21 @@ fn put_point(output: &mut [u8], at: usize, kind: u8, key: u32, payload: u64) -> 
     at + 13
 }
 
-// Stores the points behind the head, and gives the place past them.
-pub fn put_points(kinds: &[u8], keys: &[u32], payloads: &[u64], output: &mut [u8]) -> usize
+// Stores the points from `start` on, and gives the place past them.
+pub fn put_points(
+    kinds: &[u8],
+    keys: &[u32],
+    payloads: &[u64],
+    start: usize,
+    output: &mut [u8],
+) -> usize
     requires { ⌜ (length (now keys) ≡ length (now kinds)) × (length (now payloads) ≡ length (now kinds))
-        × (9 + length (storedPoints (now kinds) (now keys) (now payloads)) ≤ length (now output)) ⌝ }
-    ensures { λ r. ⌜ r ≡ 9 + length (storedPoints (now (kinds .entry)) (now (keys .entry)) (now (payloads .entry))) ⌝ }
+        × (start + length (storedPoints (now kinds) (now keys) (now payloads)) ≤ length (now output)) ⌝ }
+    ensures { λ r. ⌜ r ≡ start + length (storedPoints (now (kinds .entry)) (now (keys .entry)) (now (payloads .entry))) ⌝ }
     ensures { λ _. ⌜ now (output .exit)
-        ≡ sets (now (output .entry)) 9 (storedPoints (now (kinds .entry)) (now (keys .entry)) (now (payloads .entry))) ⌝ }
+        ≡ sets (now (output .entry)) start (storedPoints (now (kinds .entry)) (now (keys .entry)) (now (payloads .entry))) ⌝ }
 {
-    let mut at: usize = 9;
+    let mut at = start;
     let mut i: usize = 0;
     while i < kinds.len() {
         at = put_point(output, at, kinds[i], keys[i], payloads[i]);

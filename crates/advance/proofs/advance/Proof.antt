@@ -1,7 +1,7 @@
--- `advance` meets its contract: the header one position on is the header of the arrangement one position on.
+-- `advance` meets its contract: with its position one on the header is that of the arrangement one position on, and nothing else has changed.
 -- Assumes nothing.
-use borrow.Author.Needs.{needs}
 use Rattle.advance.proofs.Moving.{position-left, advance-whole}
+use borrow.Author.Needs.{needs}
 use Rattle.advance.proofs.advance.Statement.{statement}
 use Rattle.advance.proofs.advance.Tie as tie
 
@@ -11,15 +11,14 @@ read-header-requires c κs = search needs
 add-v : tie.Need-add-v
 add-v c = record { fits = position-left _ _ (c .before .read-header .ensures) (c .before .before .before .before .pre) }
 
-write-header-requires : tie.Need-write-header-requires
-write-header-requires c κs = search needs
+put4-requires : tie.Need-put4-requires
+put4-requires c κs = search needs
 
 same-length : tie.Need-same-length
 same-length c = search needs
 
 returns : tie.Need-returns
-returns c = advance-whole _ _ (c .before .before .before .before .before .read-header .ensures) (c .before .before .before .before .before .before .before .before .pre) _ (c .before .before .write-header .ensures)
+returns c = advance-whole _ _ (c .before .before .before .before .before .read-header .ensures) (c .before .before .before .before .before .before .before .before .pre) _ (c .before .before .put4 .ensures)
 
 pub advance-spec : {M : Type 1} → statement M
-advance-spec =
-    tie.close (tie.spec read-header-requires add-v write-header-requires same-length returns)
+advance-spec = tie.close (tie.spec read-header-requires add-v put4-requires same-length returns)

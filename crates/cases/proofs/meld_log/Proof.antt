@@ -17,7 +17,7 @@ same-length : tie.Need-same-length
 same-length c = search needs
 
 returns : tie.Need-returns
-returns c = log-breaks _ _ _ _ _ (length-replicate {A = ℕ} 905 0) _ (c .before .before .before .before .feed-part .ensures) (search needs)
+returns c = log-breaks _ _ _ _ _ (length-replicate {A = ℕ} 13835 0) _ (c .before .before .before .before .feed-part .ensures) (search needs)
 
 slice-aggregate-finish : tie.Need-slice-aggregate-finish
 slice-aggregate-finish c = search needs
@@ -29,7 +29,7 @@ same-length-2 : tie.Need-same-length-2
 same-length-2 c = search needs
 
 returns-2 : tie.Need-returns-2
-returns-2 c = log-ends _ _ _ _ _ (length-replicate {A = ℕ} 905 0) _ (c .before .before .before .before .before .before .before .before .before .before .feed-part .ensures) (search needs) _ _ _ (c .before .before .before .finish .ensures)
+returns-2 c = log-ends _ _ _ _ _ (length-replicate {A = ℕ} 13835 0) _ (c .before .before .before .before .before .before .before .before .before .before .feed-part .ensures) (search needs) _ _ _ (c .before .before .before .finish .ensures)
 
 pub meld-log-spec : {M : Type 1} → statement M
 meld-log-spec =

@@ -34,7 +34,7 @@ same-length c = search needs
 
 returns-2 : tie.Need-returns-2
 returns-2 c =
-    let few : c .before .before .before .before .before .before .before .before .before .before .before .before .before .args .count ≤ 8 = omega arith in
+    let few : c .before .before .before .before .before .before .before .before .before .before .before .before .before .args .count ≤ 64 = omega arith in
     few-written _ _ _ _ _ _ _ _ few (c .before .before .write .ensures)
 
 pub write-halves-spec : {M : Type 1} → statement M

@@ -47,7 +47,7 @@ use Rattle.writer.specs.Writer.{recordOf, writeOutcome, writeOf}
 use Rattle.writer.proofs.Written as Wr
 use Rattle.writer.proofs.Written.Laws as Wr′
 use Rattle.pairs.specs.declared.halves.Halves.{Halves}
-use Rattle.pairs.specs.Pairs.{atMost8, halvesOf, writeHalves}
+use Rattle.pairs.specs.Pairs.{atMost64, halvesOf, writeHalves}
 use Rattle.pairs.proofs.PairLaws.{length-padded, least-bounds, halves-write}
 use Rattle.pairs.proofs.halves.Halves as Q
 use Rattle.pairs.proofs.halves.Halves.Laws as Q′
@@ -165,11 +165,11 @@ module _ {M : Type 1} (𝓤 : URA M) (H : Heap 𝓤) (A : Atoms 𝓤) (W : Given
   goes-least : ent 𝓤 (⋆ 𝓤 H A []) (LeastC 𝓤 H A at-mem run .pre to-least)
   goes-least = qed W [] ∵ nothing ! $ owned ! usize (Is usize) (uint-makes 𝓤 H A W w64) (length (now s)) _ (refl, count-fits) $ fjoin ! $ nothing ! $ join ! $ frame ! $ done !
 
-  goes-halves : (m : ℕ) → (m ≤ 8) × (m ≤ length (now s)) → m < 2 ^ 64 → ent 𝓤 (⋆ 𝓤 H A (‵ Scans ∷ Pairs-token ∷ [])) (HalvesC 𝓤 H A at-mem run .pre (to-halves m))
+  goes-halves : (m : ℕ) → (m ≤ 64) × (m ≤ length (now s)) → m < 2 ^ 64 → ent 𝓤 (⋆ 𝓤 H A (‵ Scans ∷ Pairs-token ∷ [])) (HalvesC 𝓤 H A at-mem run .pre (to-halves m))
   goes-halves m ok fits = qed W (‵ Scans ∷ Pairs-token ∷ []) ∵ says ! ok $ nothing ! $ owned ! usize (Is usize) (uint-makes 𝓤 H A W w64) m _ (refl, fits) $ fjoin ! $ move ! (1 ∷ 0 ∷ []) $ fjoin ! $ move ! (1 ∷ 0 ∷ []) $ done !
 
-  goes-core : (r : Halves) (u : Val) → (length (r .lows) ≡ 8) × (length (r .highs) ≡ 8) → ent 𝓤 (⋆ 𝓤 H A (‵ (Q.the-row .own r (u ∷ [])) ∷ Left ∷ [])) (⋆ 𝓤 H A (raw (CoreC 𝓤 H A at-mem run .pre (to-core r u)) ∷ Kept-slices ∷ []))
-  goes-core r u eight =
+  goes-core : (r : Halves) (u : Val) → (length (r .lows) ≡ 64) × (length (r .highs) ≡ 64) → ent 𝓤 (⋆ 𝓤 H A (‵ (Q.the-row .own r (u ∷ [])) ∷ Left ∷ [])) (⋆ 𝓤 H A (raw (CoreC 𝓤 H A at-mem run .pre (to-core r u)) ∷ Kept-slices ∷ []))
+  goes-core r u long =
       qed W (‵ (Q.the-row .own r (u ∷ [])) ∷ Left ∷ []) ∵ move ! (1 ∷ []) $ split ! $ move ! (1 ∷ []) $ split ! $ move ! (1 ∷ []) $ split ! $ move ! (1 ∷ []) $ split ! $ move ! (1 ∷ []) $ split ! $
       -- [the payloads; the output; the keys; the kinds; the tokens; the pairs; the halves]
       use1 W (‵ Payloads ⊛ ‵ Payloads) (shr-slice-copy 𝓤 H A W (named 2) κ₂ u64 .twice p (slice p ∷ [])) $ split ! $
@@ -179,23 +179,23 @@ module _ {M : Type 1} (𝓤 : URA M) (H : Heap 𝓤) (A : Atoms 𝓤) (W : Given
       -- [what is kept; the kinds; the keys; the payloads; the output; the tokens; the halves]
       nothing ! $ move ! (5 ∷ 0 ∷ []) $ fjoin ! $ move ! (6 ∷ 0 ∷ []) $ fjoin ! $ owned ! usize (Is usize) (uint-makes 𝓤 H A W w64) (length (now s)) _ (refl, count-fits) $ fjoin ! $
       move ! (4 ∷ 0 ∷ []) $ fjoin ! $ move ! (3 ∷ 0 ∷ []) $ fjoin ! $ move ! (2 ∷ 0 ∷ []) $ fjoin ! $ owned ! u32 (Is u32) (uint-makes 𝓤 H A W w32) sn _ (refl, sn-fits) $ fjoin ! $ move ! (2 ∷ 0 ∷ []) $
-      use2 W (raw (CoreC 𝓤 H A at-mem run .pre (to-core r u))) (qed W (Core-tokens ∷ ‵ (Core-owns r u) ∷ []) ∵ says ! eight $ done !) $ done !
+      use2 W (raw (CoreC 𝓤 H A at-mem run .pre (to-core r u))) (qed W (Core-tokens ∷ ‵ (Core-owns r u) ∷ []) ∵ says ! long $ done !) $ done !
 
   -- what `least` and `halves_of` say of their results
-  least-said : (m : ℕ) → ent 𝓤 (ensured 𝓤 H A least.ended (least.clauses 𝓤 H A at-mem run) tt (length (now s), tt) tt m) (fact 𝓤 (m ≡ atMost8 (length (now s))))
-  least-said m = exE 𝓤 _ (λ ws. snd∗ 𝓤 (sem 𝓤 H A (lasts least.ended tt (length (now s), tt) ws)) (fact 𝓤 (m ≡ atMost8 (length (now s)))))
+  least-said : (m : ℕ) → ent 𝓤 (ensured 𝓤 H A least.ended (least.clauses 𝓤 H A at-mem run) tt (length (now s), tt) tt m) (fact 𝓤 (m ≡ atMost64 (length (now s))))
+  least-said m = exE 𝓤 _ (λ ws. snd∗ 𝓤 (sem 𝓤 H A (lasts least.ended tt (length (now s), tt) ws)) (fact 𝓤 (m ≡ atMost64 (length (now s)))))
 
   halves-said : (m : ℕ) (r : Halves) → ent 𝓤 (ensured 𝓤 H A halves-of.ended (halves-of.clauses 𝓤 H A at-mem run) (κ₃, tt) (s, (m, tt)) tt r) (fact 𝓤 (r ≡ halvesOf m (now s)))
   halves-said m r = exE 𝓤 _ (λ ws. snd∗ 𝓤 (sem 𝓤 H A (lasts halves-of.ended (κ₃, tt) (s, (m, tt)) ws)) (fact 𝓤 (r ≡ halvesOf m (now s))))
 
-  eights : (m : ℕ) (r : Halves) → r ≡ halvesOf m (now s) → (length (r .lows) ≡ 8) × (length (r .highs) ≡ 8)
-  eights m r is = (ap (λ (y : Halves). length (y .lows)) is ∙ length-padded 8 _, ap (λ (y : Halves). length (y .highs)) is ∙ length-padded 8 _)
+  all-64 : (m : ℕ) (r : Halves) → r ≡ halvesOf m (now s) → (length (r .lows) ≡ 64) × (length (r .highs) ≡ 64)
+  all-64 m r is = (ap (λ (y : Halves). length (y .lows)) is ∙ length-padded 64 _, ap (λ (y : Halves). length (y .highs)) is ∙ length-padded 64 _)
 
   -- what the core says, and what is promised
   abbrev Core-said : Halves → Written → List ℕ → Type 0
   Core-said r t zs = writeOutcome t zs ≡ writeHalves sn (now k) (now e) (now p) (length (now s)) r (now out)
 
-  promised : (m : ℕ) (r : Halves) (t : Written) (zs : List ℕ) → m ≡ atMost8 (length (now s)) → r ≡ halvesOf m (now s) → Core-said r t zs
+  promised : (m : ℕ) (r : Halves) (t : Written) (zs : List ℕ) → m ≡ atMost64 (length (now s)) → r ≡ halvesOf m (now s) → Core-said r t zs
       → writeOutcome t zs ≡ writeOf (recordOf sn (lists (now k) (now e) (now p) (map lowOf (now s)) (map highOf (now s)))) (now out)
   promised m r t zs is-m is-r said = said ∙ halves-write sn (now k) (now e) (now p) (now s) r (now out) (is-r ∙ ap (λ (i : ℕ). halvesOf i (now s)) is-m)
 
@@ -222,7 +222,7 @@ module _ {M : Type 1} (𝓤 : URA M) (H : Heap 𝓤) (A : Atoms 𝓤) (W : Given
         assigns ! (of-opd ! (load ! (from ! (fld ! refl (stop !))) (look-in ! 12 (sub ! 1 refl (whole !))))) (from ! (stop !)) (init ! 8 refl (tt, record { fits = count-fits })) $
         use0 W (raw (LeastC 𝓤 H A at-mem run .pre to-least)) goes-least $ calls-at ! fm (LeastC 𝓤 H A at-mem run) known-least to-least (and-then ! (load ! (from ! (stop !)) (look ! 9 refl)) (no-more !)) (λ y.
         use1 W (later (some (λ (m : ℕ). (‵ ftrue ⊛ ‵ (usize .own m (y ∷ []))) ⊛ raw (ensured 𝓤 H A least.ended (least.clauses 𝓤 H A at-mem run) tt (length (now s), tt) tt m)))) (id⊢ 𝓤 _) $ await ! tt $ pick ! (λ m.
-        split ! $ move ! (1 ∷ []) $ use1 W (raw (fact 𝓤 (m ≡ atMost8 (length (now s))))) (least-said m) $ heard ! (m ≡ atMost8 (length (now s))) (λ is-least. split ! $ move ! (1 ∷ []) $
+        split ! $ move ! (1 ∷ []) $ use1 W (raw (fact 𝓤 (m ≡ atMost64 (length (now s))))) (least-said m) $ heard ! (m ≡ atMost64 (length (now s))) (λ is-least. split ! $ move ! (1 ∷ []) $
         peeks ! usize (Is usize) (shows 𝓤 H A usize) m (y ∷ []) (λ is-m. land ! (from ! (stop !)) (init ! 6 refl (uint-lawful 𝓤 H A W w64 .typed m _ is-m .0)) $ rewrite ! 6 (λ (z : Val). ‵ (fat fullShare (tyInt w64) l₉ 0 z)) (ap only (is-m .0)) refl $
         -- `halves_of`
         move ! (26 ∷ 27 ∷ []) $ use2 W ((‵ Scans ⊛ Pairs-token) ⊛ Left) apart $ split ! $ split ! $ use2 W (raw (HalvesC 𝓤 H A at-mem run .pre (to-halves m))) (goes-halves m (least-bounds (length (now s)) m is-least) (is-m .1)) $
@@ -233,7 +233,7 @@ module _ {M : Type 1} (𝓤 : URA M) (H : Heap 𝓤) (A : Atoms 𝓤) (W : Given
         -- [the halves; the pairs' token; what is left; m; true; _11; …; _10; …; _9; …; _8; …; _7; …; _6; …; _5; …; _4; …; _3; …; _2; …; _1; …; room for _0; …]: the output is taken for the core
         assigns ! (addr ! (from ! (fld ! refl (hop ! (look-in ! 15 (sub ! 0 refl (whole !))) (stop !))))) (from ! (stop !)) (init ! 7 refl (tt, tt)) $
         assigns ! (agg ! (and-then ! (load ! (from ! (stop !)) (look ! 7 refl)) (and-then ! (load ! (from ! (fld ! refl (stop !))) (look-in ! 15 (sub ! 1 refl (whole !)))) (no-more !)))) (from ! (stop !)) (init ! 5 refl (tt, (tt, (record { fits = go .0 }, tt)))) $
-        move ! (0 ∷ 2 ∷ []) $ use2 W (raw (CoreC 𝓤 H A at-mem run .pre (to-core r u)) ⊛ Kept-slices) (goes-core r u (eights m r is-halves)) $ split ! $
+        move ! (0 ∷ 2 ∷ []) $ use2 W (raw (CoreC 𝓤 H A at-mem run .pre (to-core r u)) ⊛ Kept-slices) (goes-core r u (all-64 m r is-halves)) $ split ! $
         calls-at ! fm (CoreC 𝓤 H A at-mem run) known-core (to-core r u)
         (and-then ! (load ! (from ! (stop !)) (look ! 25 refl)) (and-then ! (load ! (from ! (stop !)) (look ! 23 refl)) (and-then ! (load ! (from ! (stop !)) (look ! 21 refl)) (and-then ! (load ! (from ! (stop !)) (look ! 19 refl)) (and-then ! (load ! (from ! (stop !)) (look ! 13 refl)) (and-then ! (load ! (from ! (stop !)) (look ! 11 refl)) (and-then ! (load ! (from ! (stop !)) (look ! 5 refl)) (no-more !)))))))) (λ w.
         use1 W (later (some (λ (t : Written). (Core-tokens ⊛ ‵ (Wr.the-row .own t (w ∷ []))) ⊛ raw (ensured 𝓤 H A core.ended (core.clauses 𝓤 H A at-mem run) (κ₀, (κ₁, (κ₂, (κ₄, tt)))) (core-args r) tt t)))) (id⊢ 𝓤 _) $ await ! tt $ pick ! (λ t.

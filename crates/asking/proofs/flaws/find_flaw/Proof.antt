@@ -1,8 +1,8 @@
 -- `asking::find_flaw` meets its contract: it begins with `check`, and whatever it gives back behind that is wrong (Flawed.antt).
 -- Assumes nothing.
-use borrow.Author.Needs.{needs}
 use mathlib.Core.Path.{refl}
 use Rattle.asking.proofs.Flawed.{none-found, some-found}
+use borrow.Author.Needs.{needs}
 use Rattle.asking.proofs.flaws.find_flaw.Statement.{statement}
 use Rattle.asking.proofs.flaws.find_flaw.Tie as tie
 
@@ -30,50 +30,29 @@ returns-3 c = some-found (c .before .before .before .before .before .before .bef
 shared-slice-read-if4 : tie.Need-shared-slice-read-if4
 shared-slice-read-if4 c = search needs
 
+in-version-1-requires : tie.Need-in-version-1-requires
+in-version-1-requires c κs = search needs
+
+returns-4 : tie.Need-returns-4
+returns-4 c = some-found (c .before .before .before .before .before .before .before .before .before .before .before .args .bytes .now) (c .before .before .before .before .before .before .before .before .before .check .result) (c .before .before .before .before .before .before .before .before .before .check .ensures) _ (c .before .before .before .before .before .before .if1 .left) (c .in-version-1 .ensures)
+
+shared-slice-read-if5 : tie.Need-shared-slice-read-if5
+shared-slice-read-if5 c = search needs
+
+in-version-2-requires : tie.Need-in-version-2-requires
+in-version-2-requires c κs = search needs
+
+returns-5 : tie.Need-returns-5
+returns-5 c = some-found (c .before .before .before .before .before .before .before .before .before .before .before .before .before .args .bytes .now) (c .before .before .before .before .before .before .before .before .before .before .before .check .result) (c .before .before .before .before .before .before .before .before .before .before .before .check .ensures) _ (c .before .before .before .before .before .before .before .before .if1 .left) (c .in-version-2 .ensures)
+
 shared-slice-read-wide : tie.Need-shared-slice-read-wide
 shared-slice-read-wide c = search needs
 
 wide-requires : tie.Need-wide-requires
 wide-requires c κs = search needs
 
-returns-4 : tie.Need-returns-4
-returns-4 c = some-found (c .before .before .before .before .before .before .before .before .before .before .before .before .args .bytes .now) (c .before .before .before .before .before .before .before .before .before .before .check .result) (c .before .before .before .before .before .before .before .before .before .before .check .ensures) _ (c .before .before .before .before .before .before .before .if1 .left) refl
-
-shared-slice-read-wide-2 : tie.Need-shared-slice-read-wide-2
-shared-slice-read-wide-2 c = search needs
-
-wide-requires-2 : tie.Need-wide-requires-2
-wide-requires-2 c κs = search needs
-
-cast-if5 : tie.Need-cast-if5
-cast-if5 c = search needs
-
-returns-5 : tie.Need-returns-5
-returns-5 c = some-found (c .before .before .before .before .before .before .before .before .before .before .before .before .before .args .bytes .now) (c .before .before .before .before .before .before .before .before .before .before .before .check .result) (c .before .before .before .before .before .before .before .before .before .before .before .check .ensures) _ (c .before .before .before .before .before .before .before .before .if1 .left) refl
-
-shared-slice-read-wide-3 : tie.Need-shared-slice-read-wide-3
-shared-slice-read-wide-3 c = search needs
-
-wide-requires-3 : tie.Need-wide-requires-3
-wide-requires-3 c κs = search needs
-
-cast-if6 : tie.Need-cast-if6
-cast-if6 c = search needs
-
 returns-6 : tie.Need-returns-6
-returns-6 c = some-found (c .before .before .before .before .before .before .before .before .before .before .before .before .before .before .before .before .args .bytes .now) (c .before .before .before .before .before .before .before .before .before .before .before .before .before .before .check .result) (c .before .before .before .before .before .before .before .before .before .before .before .before .before .before .check .ensures) _ (c .before .before .before .before .before .before .before .before .before .before .before .if1 .left) refl
-
-cast-behind-head : tie.Need-cast-behind-head
-cast-behind-head c = search needs
-
-cast-behind-head-2 : tie.Need-cast-behind-head-2
-cast-behind-head-2 c = search needs
-
-behind-head-requires : tie.Need-behind-head-requires
-behind-head-requires c κs = search needs
-
-returns-7 : tie.Need-returns-7
-returns-7 c = some-found (c .before .before .before .before .before .before .before .before .before .before .before .before .before .before .before .before .before .args .bytes .now) (c .before .before .before .before .before .before .before .before .before .before .before .before .before .before .before .check .result) (c .before .before .before .before .before .before .before .before .before .before .before .before .before .before .before .check .ensures) _ (c .before .before .before .before .before .before .before .before .before .before .before .before .if1 .left) (c .behind-head .ensures)
+returns-6 c = some-found (c .before .before .before .before .before .before .before .before .before .before .before .before .before .before .args .bytes .now) (c .before .before .before .before .before .before .before .before .before .before .before .before .check .result) (c .before .before .before .before .before .before .before .before .before .before .before .before .check .ensures) _ (c .before .before .before .before .before .before .before .before .before .if1 .left) refl
 
 pub find-flaw-spec : {M : Type 1} → statement M
 find-flaw-spec =
@@ -87,18 +66,11 @@ find-flaw-spec =
     add-if3
     returns-3
     shared-slice-read-if4
+    in-version-1-requires
+    returns-4
+    shared-slice-read-if5
+    in-version-2-requires
+    returns-5
     shared-slice-read-wide
     wide-requires
-    returns-4
-    shared-slice-read-wide-2
-    wide-requires-2
-    cast-if5
-    returns-5
-    shared-slice-read-wide-3
-    wide-requires-3
-    cast-if6
-    returns-6
-    cast-behind-head
-    cast-behind-head-2
-    behind-head-requires
-    returns-7)
+    returns-6)

@@ -102,7 +102,7 @@ module _ {M : Type 1} (𝓤 : URA M) (H : Heap 𝓤) (A : Atoms 𝓤) (at-mem : 
   abbrev PutC : Contract 𝓤
   PutC = tripleOf 𝓤 H A put.signature (put.spec 𝓤 H A at-mem run)
 
-module _ {M : Type 1} (𝓤 : URA M) (H : Heap 𝓤) (A : Atoms 𝓤) (W : Given 𝓤 H A) (at-mem : Memory → SProp 𝓤) (run : Routine → Fun 𝓤) (κ : Lft) (q : Share) (s : RefT (List Scan)) (n : ℕ) (n-fits : n < 2 ^ 64) (ok : (n ≤ 8) × (n ≤ length (now s))) where
+module _ {M : Type 1} (𝓤 : URA M) (H : Heap 𝓤) (A : Atoms 𝓤) (W : Given 𝓤 H A) (at-mem : Memory → SProp 𝓤) (run : Routine → Fun 𝓤) (κ : Lft) (q : Share) (s : RefT (List Scan)) (n : ℕ) (n-fits : n < 2 ^ 64) (ok : (n ≤ 64) × (n ≤ length (now s))) where
   abbrev x : RefT (List Scan) × (ℕ × Unit {0})
   x = (s, (n, tt))
 
@@ -138,7 +138,7 @@ module _ {M : Type 1} (𝓤 : URA M) (H : Heap 𝓤) (A : Atoms 𝓤) (W : Given
   goes-scan : (i : ℕ) → i < length (now s) → i < 2 ^ 64 → ent 𝓤 (⋆ 𝓤 H A (‵ Scans ∷ (‵ (flft κ q) ⊛ ‵ ftrue) ∷ [])) (ScanC 𝓤 H A at-mem run .pre (to-scan i))
   goes-scan i within fits = qed W (‵ Scans ∷ (‵ (flft κ q) ⊛ ‵ ftrue) ∷ []) ∵ says ! within $ nothing ! $ owned ! usize (Is usize) (uint-makes 𝓤 H A W w64) i _ (refl, fits) $ fjoin ! $ move ! (1 ∷ 0 ∷ []) $ fjoin ! $ move ! (1 ∷ 0 ∷ []) $ done !
 
-  goes-put : (i : ℕ) (c : Scan) (u w : Val) → i < 8 → ent 𝓤 (⋆ 𝓤 H A (‵ (Found i u) ∷ ‵ (R .own c (w ∷ [])) ∷ [])) (PutC 𝓤 H A at-mem run .pre (to-put i c u w))
+  goes-put : (i : ℕ) (c : Scan) (u w : Val) → i < 64 → ent 𝓤 (⋆ 𝓤 H A (‵ (Found i u) ∷ ‵ (R .own c (w ∷ [])) ∷ [])) (PutC 𝓤 H A at-mem run .pre (to-put i c u w))
   goes-put i c u w small =
       qed W (‵ (Found i u) ∷ ‵ (R .own c (w ∷ [])) ∷ []) ∵ says ! small $ nothing ! $ move ! (2 ∷ 0 ∷ []) $ fjoin ! $ owned ! usize (Is usize) (uint-makes 𝓤 H A W w64) i _ (refl, in-word) $ fjoin ! $ move ! (1 ∷ 0 ∷ []) $ fjoin ! $ nothing ! $ done !
     where
@@ -219,7 +219,7 @@ module _ {M : Type 1} (𝓤 : URA M) (H : Heap 𝓤) (A : Atoms 𝓤) (W : Given
           within : t .0 < length (now s)
           within = omega (arith, less)
 
-          small : t .0 < 8
+          small : t .0 < 64
           small = omega (arith, less)
 
           in-word : t .0 < 2 ^ 64
@@ -267,7 +267,7 @@ module _ {M : Type 1} (𝓤 : URA M) (H : Heap 𝓤) (A : Atoms 𝓤) (W : Given
 module _ {M : Type 1} (𝓤 : URA M) (H : Heap 𝓤) (A : Atoms 𝓤) (W : Given 𝓤 H A) (mem : Memory → SProp 𝓤) (run : Routine → Fun 𝓤) (𝓣 : Tables 𝓤 H) (known-none : Triple 𝓤 (𝓣 .C #pairs·none-yet) (NoneC 𝓤 H A mem run)) (known-scan : Triple 𝓤 (𝓣 .C #pairs·scan-at) (ScanC 𝓤 H A mem run)) (known-put : Triple 𝓤 (𝓣 .C #pairs·with) (PutC 𝓤 H A mem run)) where
   halves-of-walks : Walks 𝓤 H A halves-of.ended stayed (WpFn 𝓤 H (𝓣 .C) (𝓣 .Λ) code.function) (halves-of.clauses 𝓤 H A mem run)
   halves-of-walks = walked 𝓤 H A halves-of.ended stayed (halves-of.clauses 𝓤 H A mem run) (WpFn 𝓤 H (𝓣 .C) (𝓣 .Λ) code.function) (λ κs. (slice-vals, (uint-vals w64, tt))) (λ κs. (shr-slice-tells (named 0) (κs .0) R, (uint-tells w64, tt)))
-      (λ κs qs bounds a g are. needs 𝓤 ((a .1 .0 ≤ 8) × (a .1 .0 ≤ length (now (a .0)))) _
+      (λ κs qs bounds a g are. needs 𝓤 ((a .1 .0 ≤ 64) × (a .1 .0 ≤ length (now (a .0)))) _
       (λ ok. walk 𝓤 H A W mem run (κs .0) (qs .0) (a .0) (a .1 .0) (are .1 .0 .1) ok 𝓣 known-none known-scan known-put (are .0 .0 .1)))
 
   halves-of-meets : Meets 𝓤 H A halves-of.signature (WpFn 𝓤 H (𝓣 .C) (𝓣 .Λ) code.function) (halves-of.spec 𝓤 H A mem run)

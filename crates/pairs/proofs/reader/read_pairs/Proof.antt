@@ -144,7 +144,7 @@ module _ {M : Type 1} (𝓤 : URA M) (H : Heap 𝓤) (A : Atoms 𝓤) (W : Given
       move ! (2 ∷ []) $ owned ! usize (Is usize) (uint-makes 𝓤 H A W w64) (length (now s)) _ (refl, gs .0) $ fjoin ! $ move ! (3 ∷ 0 ∷ []) $ fjoin ! $ move ! (3 ∷ 0 ∷ []) $ fjoin ! $ move ! (3 ∷ 0 ∷ []) $ fjoin ! $ move ! (2 ∷ 0 ∷ []) $ fjoin ! $
       move ! (2 ∷ 0 ∷ []) $ use2 W (raw (ReadC 𝓤 H A at-mem run .pre to-read)) (qed W (Read-tokens ∷ ‵ Read-owns ∷ []) ∵ join ! $ frame ! $ done !) $ done !
 
-  goes-store : (f : Found) (u : Val) → (f .reading .scans ≤ 8) × (f .reading .scans ≤ length (now s)) → ent 𝓤 (⋆ 𝓤 H A (‵ (F.the-row .own f (u ∷ [])) ∷ (‵ Scans ⊛ Store-token) ∷ [])) (StoreC 𝓤 H A at-mem run .pre (to-store f u))
+  goes-store : (f : Found) (u : Val) → (f .reading .scans ≤ 64) × (f .reading .scans ≤ length (now s)) → ent 𝓤 (⋆ 𝓤 H A (‵ (F.the-row .own f (u ∷ [])) ∷ (‵ Scans ⊛ Store-token) ∷ [])) (StoreC 𝓤 H A at-mem run .pre (to-store f u))
   goes-store f u ok =
       qed W (‵ (F.the-row .own f (u ∷ [])) ∷ (‵ Scans ⊛ Store-token) ∷ []) ∵ says ! ok $ move ! (1 ∷ []) $ split ! $ nothing ! $ move ! (3 ∷ 0 ∷ []) $ fjoin ! $ move ! (1 ∷ 0 ∷ []) $ fjoin ! $ move ! (1 ∷ 0 ∷ []) $ done !
 
@@ -158,7 +158,7 @@ module _ {M : Type 1} (𝓤 : URA M) (H : Heap 𝓤) (A : Atoms 𝓤) (W : Given
   abbrev Said : Reading → List ℕ → List ℕ → List ℕ → List Scan → Type 0
   Said r ks es xs cs = PairsRead (now bytes) (now k) (now e) (now p) (now s) r ks es xs cs
 
-  has-room : (f : Found) (ks es xs : List ℕ) → Read-said f ks es xs → (f .reading .scans ≤ 8) × (f .reading .scans ≤ length (now s))
+  has-room : (f : Found) (ks es xs : List ℕ) → Read-said f ks es xs → (f .reading .scans ≤ 64) × (f .reading .scans ≤ length (now s))
   has-room f ks es xs said = let m = halves-mean (now bytes) (now k) (now e) (now p) (now s) f ks es xs said in (m .few, m .within)
 
   promised : (f : Found) (r : Reading) (ks es xs : List ℕ) (cs : List Scan) → Read-said f ks es xs → Stored f r cs → Said r ks es xs cs

@@ -116,7 +116,7 @@ module _ {M : Type 1} (𝓤 : URA M) (H : Heap 𝓤) (A : Atoms 𝓤) (at-mem : 
   GivesC = tripleOf 𝓤 H A gives.signature (gives.spec 𝓤 H A at-mem run)
 
 module _ {M : Type 1} (𝓤 : URA M) (H : Heap 𝓤) (A : Atoms 𝓤) (W : Given 𝓤 H A) (at-mem : Memory → SProp 𝓤) (run : Routine → Fun 𝓤) (κ : Lft) (q : Share) (b o : ℕ) (γ : GName) (ys : List Scan) (f : Found)
-    (gn : Room R (length ys)) (ok : (f .reading .scans ≤ 8) × (f .reading .scans ≤ length ys)) where
+    (gn : Room R (length ys)) (ok : (f .reading .scans ≤ 64) × (f .reading .scans ≤ length ys)) where
   abbrev x : RefT (List Scan) × (Found × Unit {0})
   x = (record { ptr = (b, o); name = γ; now = ys }, (f, tt))
 
@@ -156,7 +156,7 @@ module _ {M : Type 1} (𝓤 : URA M) (H : Heap 𝓤) (A : Atoms 𝓤) (W : Given
   goes-count : ent 𝓤 (⋆ 𝓤 H A (‵ Own ∷ [])) (CountC 𝓤 H A at-mem run .pre to-count)
   goes-count = qed W (‵ Own ∷ []) ∵ nothing ! $ move ! (1 ∷ 0 ∷ []) $ fjoin ! $ nothing ! $ join ! $ frame ! $ done !
 
-  goes-scan : (i : ℕ) → i < 8 → ent 𝓤 (⋆ 𝓤 H A (‵ Own ∷ [])) (ScanC 𝓤 H A at-mem run .pre (to-scan i))
+  goes-scan : (i : ℕ) → i < 64 → ent 𝓤 (⋆ 𝓤 H A (‵ Own ∷ [])) (ScanC 𝓤 H A at-mem run .pre (to-scan i))
   goes-scan i small = qed W (‵ Own ∷ []) ∵ says ! small $ nothing ! $ owned ! usize (Is usize) (uint-makes 𝓤 H A W w64) i _ (refl, in-word) $ fjoin ! $ move ! (1 ∷ 0 ∷ []) $ fjoin ! $ nothing ! $ done !
     where
       in-word : i < 2 ^ 64
@@ -251,7 +251,7 @@ module _ {M : Type 1} (𝓤 : URA M) (H : Heap 𝓤) (A : Atoms 𝓤) (W : Given
           in-row : t .0 < length (upto (t .0))
           in-row = omega (arith, within, length-stored (t .0) (f .halves) ys)
 
-          small : t .0 < 8
+          small : t .0 < 64
           small = omega (arith, less, ok .0)
 
           next-in-word : t .0 + 1 < 2 ^ 64
@@ -306,7 +306,7 @@ module _ {M : Type 1} (𝓤 : URA M) (H : Heap 𝓤) (A : Atoms 𝓤) (W : Given
 module _ {M : Type 1} (𝓤 : URA M) (H : Heap 𝓤) (A : Atoms 𝓤) (W : Given 𝓤 H A) (mem : Memory → SProp 𝓤) (run : Routine → Fun 𝓤) (𝓣 : Tables 𝓤 H) (known-count : Triple 𝓤 (𝓣 .C #pairs·scans-found) (CountC 𝓤 H A mem run)) (known-scan : Triple 𝓤 (𝓣 .C #pairs·scan-of) (ScanC 𝓤 H A mem run)) (known-gives : Triple 𝓤 (𝓣 .C #pairs·reading-of) (GivesC 𝓤 H A mem run)) where
   store-scans-walks : Walks 𝓤 H A stores.ended stayed (WpFn 𝓤 H (𝓣 .C) (𝓣 .Λ) code.function) (stores.clauses 𝓤 H A mem run)
   store-scans-walks = walked 𝓤 H A stores.ended stayed (stores.clauses 𝓤 H A mem run) (WpFn 𝓤 H (𝓣 .C) (𝓣 .Λ) code.function) (λ κs. (slice-vals, (LL.vals F.the-type F′.the-laws, tt))) (λ κs. (mut-slice-tells (named 0) (κs .0) R, (LL.tells F.the-type F′.the-laws, tt)))
-      (λ κs qs bounds a g are. needs 𝓤 ((a .1 .0 .reading .scans ≤ 8) × (a .1 .0 .reading .scans ≤ length (now (a .0)))) _
+      (λ κs qs bounds a g are. needs 𝓤 ((a .1 .0 .reading .scans ≤ 64) × (a .1 .0 .reading .scans ≤ length (now (a .0)))) _
       (λ ok. walk 𝓤 H A W mem run (κs .0) (qs .0) (a .0 .ptr .0) (a .0 .ptr .1) (a .0 .name) (a .0 .now) (a .1 .0) (are .0 .0 .1) ok 𝓣 known-count known-scan known-gives (are .1 .0)))
 
   store-scans-meets : Meets 𝓤 H A stores.signature (WpFn 𝓤 H (𝓣 .C) (𝓣 .Λ) code.function) (stores.spec 𝓤 H A mem run)

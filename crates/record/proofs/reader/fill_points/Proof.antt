@@ -16,18 +16,29 @@ use Rattle.record.proofs.reader.fill_points.Statement.{statement}
 use Rattle.record.proofs.reader.fill_points.Tie as tie
 
 abbrev Inv-loop : tie.InvT-loop
-Inv-loop bytes count kinds₀ keys₀ payloads₀ at₀ low₀ i₀ kinds keys payloads at low i = (i ≤ count) × (at ≤ length bytes) × (length kinds ≡ length kinds₀) × (length keys ≡ length keys₀) × (length payloads ≡ length payloads₀)
+Inv-loop bytes start count kinds₀ keys₀ payloads₀ at₀ low₀ i₀ kinds keys payloads at low i = (i ≤ count) × (at ≤ length bytes) × (length kinds ≡ length kinds₀) × (length keys ≡ length keys₀) × (length payloads ≡ length payloads₀)
     × (isTook (parsePoints (count - i) low bytes at) ≡ true)
-    × (placeOf (parsePoints count 0 bytes 9) ≡ placeOf (parsePoints (count - i) low bytes at))
-    × (sets kinds₀ 0 (map kindOf (listOf (parsePoints count 0 bytes 9))) ≡ sets kinds i (map kindOf (listOf (parsePoints (count - i) low bytes at))))
-    × (sets keys₀ 0 (map keyOf (listOf (parsePoints count 0 bytes 9))) ≡ sets keys i (map keyOf (listOf (parsePoints (count - i) low bytes at))))
-    × (sets payloads₀ 0 (map payloadOf (listOf (parsePoints count 0 bytes 9))) ≡ sets payloads i (map payloadOf (listOf (parsePoints (count - i) low bytes at))))
+    × (placeOf (parsePoints count 0 bytes start) ≡ placeOf (parsePoints (count - i) low bytes at))
+    × (sets kinds₀ 0 (map kindOf (listOf (parsePoints count 0 bytes start))) ≡ sets kinds i (map kindOf (listOf (parsePoints (count - i) low bytes at))))
+    × (sets keys₀ 0 (map keyOf (listOf (parsePoints count 0 bytes start))) ≡ sets keys i (map keyOf (listOf (parsePoints (count - i) low bytes at))))
+    × (sets payloads₀ 0 (map payloadOf (listOf (parsePoints count 0 bytes start))) ≡ sets payloads i (map payloadOf (listOf (parsePoints (count - i) low bytes at))))
 
 abbrev μ-loop : tie.MeasureT-loop
-μ-loop bytes count kinds₀ keys₀ payloads₀ at₀ low₀ i₀ kinds keys payloads at low i = count - i
+μ-loop bytes start count kinds₀ keys₀ payloads₀ at₀ low₀ i₀ kinds keys payloads at low i = count - i
 
 loop-holds : tie.Need-loop-holds Inv-loop μ-loop
-loop-holds c = search (sub-zero, needs)
+loop-holds c = (
+  search needs,
+  search needs,
+  search needs,
+  search needs,
+  search needs,
+  search (sub-zero, needs),
+  search (sub-zero, needs),
+  search (sub-zero, needs),
+  search (sub-zero, needs),
+  search (sub-zero, needs),
+)
 
 point-at-requires : tie.Need-point-at-requires Inv-loop μ-loop
 point-at-requires c κs = search needs

@@ -1,26 +1,25 @@
 -- `read` meets its contract: a law of ReadLaws for each return; what the check has seen is what the filling functions require.
 -- Assumes nothing.
-use native.Mathlib.Omega.{arith}
-use Rattle.record.proofs.WellFormed.{checked-long, checked-points, checked-within, checked-scans}
+use Rattle.record.proofs.WellFormed.{checked-long, checked-start, checked-points, checked-within, checked-scans}
 use Rattle.record.proofs.ReadLaws.{read-malformed, read-kinds, read-keys, read-payloads, read-lows, read-highs, read-whole}
 use borrow.Author.Needs.{needs}
 use Rattle.record.proofs.reader.read.Statement.{statement}
 use Rattle.record.proofs.reader.read.Tie as tie
 
-check-requires : tie.Need-check-requires
-check-requires c κs = search needs
+well-formed-requires : tie.Need-well-formed-requires
+well-formed-requires c κs = search needs
+
+enum-known-points : tie.Need-enum-known-points
+enum-known-points c = search needs
+
+enum-told : tie.Need-enum-told
+enum-told c = search needs
 
 refusal-requires : tie.Need-refusal-requires
 refusal-requires c κs = search needs
 
 returns : tie.Need-returns
-returns c = search (read-malformed, c .before .if1 .taken, needs)
-
-shared-slice-read-points : tie.Need-shared-slice-read-points
-shared-slice-read-points c = search (checked-long, needs)
-
-cast-points : tie.Need-cast-points
-cast-points c = omega (arith, c .shared-slice-known2 .given 7)
+returns c = search (read-malformed, needs)
 
 refusal-requires-2 : tie.Need-refusal-requires-2
 refusal-requires-2 c κs = search needs
@@ -40,12 +39,6 @@ refusal-requires-4 c κs = search needs
 returns-4 : tie.Need-returns-4
 returns-4 c = search (read-payloads, needs)
 
-shared-slice-read-scans : tie.Need-shared-slice-read-scans
-shared-slice-read-scans c = search (checked-long, needs)
-
-cast-scans : tie.Need-cast-scans
-cast-scans c = omega (arith, c .shared-slice-known3 .given 8)
-
 refusal-requires-5 : tie.Need-refusal-requires-5
 refusal-requires-5 c κs = search needs
 
@@ -62,7 +55,7 @@ word4-requires : tie.Need-word4-requires
 word4-requires c κs = search (checked-long, needs)
 
 fill-points-requires : tie.Need-fill-points-requires
-fill-points-requires c κs = (search (checked-long, needs), (search (checked-points, needs), (search needs, search needs, search needs)))
+fill-points-requires c κs = (search (checked-start, needs), (search (checked-points, needs), (search needs, search needs, search needs)))
 
 fill-scans-requires : tie.Need-fill-scans-requires
 fill-scans-requires c κs = (search (checked-within, needs), (search (checked-scans, needs), (search needs, search needs)))
@@ -83,25 +76,26 @@ same-length-5 : tie.Need-same-length-5
 same-length-5 c = search needs
 
 returns-7 : tie.Need-returns-7
-returns-7 c = search (read-whole, needs)
+returns-7 c =
+    read-whole _ _ _ _ _ _ _ (c .before .before .before .before .before .before .before .before .before .before .before .before .before .before .before .before .before .before .before .before .before .before .before .before .before .before .well-formed .ensures) _ _ _ (search needs) (c .before .before .before .before .before .before .before .before .before .before .before .before .before .before .before .before .before .before .before .before .before .before .if1 .left) (c .before .before .before .before .before .before .before .before .before .before .before .before .before .before .before .before .before .before .before .before .before .if2 .left) (c .before .before .before .before .before .before .before .before .before .before .before .before .before .before .before .before .before .before .before .before .if3 .left) (c .before .before .before .before .before .before .before .before .before .before .before .before .before .before .before .before .before .before .before .if4 .left) (c .before .before .before .before .before .before .before .before .before .before .before .before .before .before .before .before .before .before .if5 .left) _ _ _ _ _ _ _
+    (c .before .before .before .before .before .before .before .before .before .before .before .before .before .fill-points .ensures .1 .0) (c .before .before .before .before .before .before .before .before .before .before .before .before .before .fill-points .ensures .1 .1 .0) (c .before .before .before .before .before .before .before .before .before .before .before .before .before .fill-points .ensures .1 .1 .1) (c .before .before .before .before .before .before .before .before .before .before .before .before .before .fill-points .ensures .0)
+    (c .before .before .before .before .fill-scans .ensures .0) (c .before .before .before .before .fill-scans .ensures .1) (c .before .before .before .before .before .before .before .before .before .before .before .before .before .before .before .before .before .word4 .ensures)
 
 pub read-spec : {M : Type 1} → statement M
 read-spec =
     tie.close
     (tie.spec
-    check-requires
+    well-formed-requires
+    enum-known-points
+    enum-told
     refusal-requires
     returns
-    shared-slice-read-points
-    cast-points
     refusal-requires-2
     returns-2
     refusal-requires-3
     returns-3
     refusal-requires-4
     returns-4
-    shared-slice-read-scans
-    cast-scans
     refusal-requires-5
     returns-5
     refusal-requires-6

@@ -57,7 +57,7 @@ same-length-2 : tie.Need-same-length-2
 same-length-2 c = search needs
 
 returns-3 : tie.Need-returns-3
-returns-3 c = ends-melded _ _ _ _ (c .before .before .before .before .before .before .before .before .before .before .before .before .before .before .before .before .before .before .before .before .fill .ensures) _ _ _ _ _ _ (search needs) (c .before .before .before .before .before .before .before .before .before .before .before .before .before .before .before .«open» .ensures) (search needs) (length-replicate {A = ℕ} 905 0) (c .before .before .before .before .meld-through .ensures)
+returns-3 c = ends-melded _ _ _ _ (c .before .before .before .before .before .before .before .before .before .before .before .before .before .before .before .before .before .before .before .before .fill .ensures) _ _ _ _ _ _ (search needs) (c .before .before .before .before .before .before .before .before .before .before .before .before .before .before .before .«open» .ensures) (search needs) (length-replicate {A = ℕ} 13835 0) (c .before .before .before .before .meld-through .ensures)
 
 pub meld-input-spec : {M : Type 1} → statement M
 meld-input-spec =

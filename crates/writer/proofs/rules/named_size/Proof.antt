@@ -1,6 +1,6 @@
 -- `named_size` meets its contract: a law of SizeLaws for each return.
 -- Assumes nothing.
-use Rattle.writer.proofs.SizeLaws.{size-keys, size-payloads, size-highs, size-points, size-scans, size-points-bad, size-place, size-whole}
+use Rattle.writer.proofs.SizeLaws.{size-keys, size-payloads, size-highs, size-points, size-scans, start-most, size-points-bad, size-place, size-whole}
 use borrow.Author.Needs.{needs}
 use Rattle.writer.proofs.rules.named_size.Statement.{statement}
 use Rattle.writer.proofs.rules.named_size.Tie as tie
@@ -20,8 +20,14 @@ returns-4 c = search (size-points, needs)
 returns-5 : tie.Need-returns-5
 returns-5 c = search (size-scans, needs)
 
+version-for-requires : tie.Need-version-for-requires
+version-for-requires c κs = search needs
+
+head-size-requires : tie.Need-head-size-requires
+head-size-requires c κs = search needs
+
 points-end-requires : tie.Need-points-end-requires
-points-end-requires c κs = search needs
+points-end-requires c κs = (search needs, search needs, search needs, search (start-most, needs))
 
 enum-known-at : tie.Need-enum-known-at
 enum-known-at c = search needs
@@ -47,6 +53,8 @@ named-size-spec =
     returns-3
     returns-4
     returns-5
+    version-for-requires
+    head-size-requires
     points-end-requires
     enum-known-at
     enum-told

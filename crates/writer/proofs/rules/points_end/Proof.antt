@@ -11,11 +11,11 @@ use Rattle.writer.proofs.rules.points_end.Statement.{statement}
 use Rattle.writer.proofs.rules.points_end.Tie as tie
 
 abbrev Inv-loop : tie.InvT-loop
-Inv-loop kinds keys payloads at₀ low₀ i₀ at low i = (i ≤ length kinds) × (at ≤ 9 + 13 * i)
-    × (endOf (namedPoints 0 kinds keys payloads 9) ≡ endOf (namedPoints low (drop i kinds) (drop i keys) (drop i payloads) at))
+Inv-loop kinds keys payloads start at₀ low₀ i₀ at low i = (i ≤ length kinds) × (at ≤ start + 13 * i)
+    × (endOf (namedPoints 0 kinds keys payloads start) ≡ endOf (namedPoints low (drop i kinds) (drop i keys) (drop i payloads) at))
 
 abbrev μ-loop : tie.MeasureT-loop
-μ-loop kinds keys payloads at₀ low₀ i₀ at low i = length kinds - i
+μ-loop kinds keys payloads start at₀ low₀ i₀ at low i = length kinds - i
 
 loop-holds : tie.Need-loop-holds Inv-loop μ-loop
 loop-holds c = search needs

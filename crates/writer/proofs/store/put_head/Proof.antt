@@ -1,4 +1,4 @@
--- `put_head` meets its contract: its five stores are one run of nine bytes.
+-- `put_head` meets its contract: its five stores are one run of bytes.
 -- Assumes nothing.
 use Rattle.writer.proofs.StoreLaws.{head-snapshot, head-points, head-scans, head-same, head-stored}
 use borrow.Author.Needs.{needs}
@@ -14,11 +14,14 @@ slice-write-output c = search needs
 put4-requires : tie.Need-put4-requires
 put4-requires c κs = search (head-snapshot, needs)
 
-slice-write-output-2 : tie.Need-slice-write-output-2
-slice-write-output-2 c = search (head-points, needs)
+put-count-requires : tie.Need-put-count-requires
+put-count-requires c κs = (search needs, search needs, head-points _ _ _ _ _ _ _ (c .before .before .before .before .before .before .before .put2 .ensures) _ (c .before .before .before .put4 .ensures) (c .before .before .before .before .before .before .before .before .before .before .pre .0 .0), search needs)
 
-slice-write-output-3 : tie.Need-slice-write-output-3
-slice-write-output-3 c = search (head-scans, needs)
+add-put-count : tie.Need-add-put-count
+add-put-count c = search needs
+
+put-count-requires-2 : tie.Need-put-count-requires-2
+put-count-requires-2 c κs = (search needs, search needs, head-scans _ _ _ _ _ _ _ (c .before .before .before .before .before .before .before .before .before .before .before .put2 .ensures) _ (c .before .before .before .before .before .before .before .put4 .ensures) _ _ _ (c .before .before .before .put-count .ensures) (c .before .before .before .before .before .before .before .before .before .before .before .before .before .before .pre .0 .0), search needs)
 
 same-length : tie.Need-same-length
 same-length c = search (head-same, needs)
@@ -33,7 +36,8 @@ put-head-spec =
     put2-requires
     slice-write-output
     put4-requires
-    slice-write-output-2
-    slice-write-output-3
+    put-count-requires
+    add-put-count
+    put-count-requires-2
     same-length
     returns)

@@ -11,12 +11,12 @@ use Rattle.writer.proofs.store.put_points.Statement.{statement}
 use Rattle.writer.proofs.store.put_points.Tie as tie
 
 abbrev Inv-loop : tie.InvT-loop
-Inv-loop kinds keys payloads output₀ at₀ i₀ output at i = (i ≤ length kinds) × (length output ≡ length output₀)
-    × (9 + length (storedPoints kinds keys payloads) ≡ at + length (storedPoints (drop i kinds) (drop i keys) (drop i payloads)))
-    × (sets output₀ 9 (storedPoints kinds keys payloads) ≡ sets output at (storedPoints (drop i kinds) (drop i keys) (drop i payloads)))
+Inv-loop kinds keys payloads start output₀ at₀ i₀ output at i = (i ≤ length kinds) × (length output ≡ length output₀)
+    × (start + length (storedPoints kinds keys payloads) ≡ at + length (storedPoints (drop i kinds) (drop i keys) (drop i payloads)))
+    × (sets output₀ start (storedPoints kinds keys payloads) ≡ sets output at (storedPoints (drop i kinds) (drop i keys) (drop i payloads)))
 
 abbrev μ-loop : tie.MeasureT-loop
-μ-loop kinds keys payloads output₀ at₀ i₀ output at i = length kinds - i
+μ-loop kinds keys payloads start output₀ at₀ i₀ output at i = length kinds - i
 
 loop-holds : tie.Need-loop-holds Inv-loop μ-loop
 loop-holds c = search needs
