@@ -4,11 +4,13 @@
      cost tombstones N KEYS ZONE FILE COUNT  the same, then COUNT of the keys deleted, and two empty records
      cost comb N KEYS ZONE FILE [COUNT]      a pool with KEYS keys, then 72 numbers, then for each the 32 keys that differ from it in one bit;
                                              with COUNT so many of the 72 deleted then, and two empty records
+     cost combs N KEYS ZONE FILE             the same with 1,088 numbers
      cost library|plain CALL N KEYS POINTS FILE [skip|stack|compare]
    CALL is look (lookup of an absent key), status, or a meld of POINTS points: kept (puts of kept keys), new (puts of other keys), read (reads of kept keys),
-   old (reads of other keys, with half the position as snapshot), scans (POINTS scans between neighbouring kept keys, the same snapshot), fullest (64
-   reads and 8 scans of the 72 numbers, with the position before their combs as snapshot), lost (reads of kept keys, with half the position), late (the same,
-   with 0). The others have the position as snapshot. With why- before it the record of such a call is explained and not melded. Three calls feed the
+   old (reads of other keys, with half the position as snapshot), scans (POINTS scans between neighbouring kept keys, 8 at most, the same snapshot), full
+   (puts of kept keys that were written before half the position, and a scan between neighbouring kept keys for each 16 of them, the same snapshot; 1,024 of
+   them make the longest record), fullest (64 reads and 8 scans of the 72 numbers, or 1,024 and 64 of the 1,088, with the position before their combs as
+   snapshot), lost (reads of kept keys, with half the position), late (the same, with 0). The others have the position as snapshot. With why- before it the record of such a call is explained and not melded. Three calls feed the
    record of kept: fed (all of it in the part, and nothing carried), begun (its first byte carried, the others in the part), more (all of it but its last
    byte in the part, so that none is decided). Three cut a log that is the record of kept: cut (as it is), torn (without its last byte), sick (with a length
    of 65,535). With skip the call is left out; with stack the bytes of stack it used are printed; with compare both are
@@ -21,7 +23,10 @@
 #include "plain.h"
 #include "keys.h"
 
-enum { COMBS = 72, PAINTED = 65536, PAINT = 0xA7 };
+enum { PAINTED = 65536, PAINT = 0xA7 };
+
+/* The most points and scans of a record of version 1; so many points a record has that makes a pool. */
+enum { FEW_POINTS = 64, FEW_SCANS = 8 };
 
 /* Statuses that are no answer: a wrong command line or no such file, a pool that was not made, two calls that differ. */
 enum { MISUSED = 20, NOT_MADE = 21, DIFFERENT = 22 };
@@ -32,14 +37,20 @@ static uint64_t length;
 static uint32_t n, keys;
 
 /* What is saved beside the pool: the position before the combs, and scans between neighbouring keys. */
+struct scans {
+    uint32_t lows[EMUPARASOL_MOST_SCANS], highs[EMUPARASOL_MOST_SCANS];
+};
 static struct {
-    uint32_t before_combs, lows[8], highs[8];
+    uint32_t before_combs;
+    struct scans few, many;
 } beside;
 
 static uint32_t word_at(const uint8_t *at) { return (uint32_t)at[0] << 24 | (uint32_t)at[1] << 16 | (uint32_t)at[2] << 8 | at[3]; }
 
-/* The numbers at which the combs stand: spread evenly, so that their paths part early. */
-static uint32_t comb(uint32_t i) { return i * (0xFFFFFFFFu / COMBS) + 0x00654321u; }
+/* The numbers at which the combs stand, for each point and scan of a record one: spread evenly, so that their paths part early. No two of them differ in
+   one bit: a multiple of the step between them is no power of two. */
+enum { FEW_COMBS = FEW_POINTS + FEW_SCANS, MANY_COMBS = EMUPARASOL_MOST_POINTS + EMUPARASOL_MOST_SCANS };
+static uint32_t comb(uint32_t combs, uint32_t i) { return i * (0xFFFFFFFFu / combs) + (combs == FEW_COMBS ? 0x00654321u : 0x00254321u); }
 
 static int by_value(const void *a, const void *b) {
     uint32_t x = *(const uint32_t *)a, y = *(const uint32_t *)b;
@@ -49,8 +60,8 @@ static int by_value(const void *a, const void *b) {
 /* A record of points of one kind and of scans; ends the program if the lists break a rule. */
 static uint64_t record_of(uint8_t *out, uint32_t snapshot, uint32_t *named, uint64_t points, uint8_t kind, const uint32_t *lows, const uint32_t *highs,
                           uint64_t scans) {
-    uint8_t kinds[64];
-    uint64_t payloads[64];
+    static uint8_t kinds[EMUPARASOL_MOST_POINTS];
+    static uint64_t payloads[EMUPARASOL_MOST_POINTS];
     uint64_t size;
     qsort(named, points, sizeof *named, by_value);
     memset(kinds, kind, sizeof kinds);
@@ -73,9 +84,9 @@ static void meld_points(uint32_t *named, uint64_t points, uint8_t kind) {
 
 /* Melds points for the first so many keys, 64 a record. */
 static void meld_first(uint32_t count, uint8_t kind) {
-    uint32_t some[64];
+    uint32_t some[FEW_POINTS];
     for (uint32_t done = 0; done < count;) {
-        uint32_t part = count - done < 64 ? count - done : 64;
+        uint32_t part = count - done < FEW_POINTS ? count - done : FEW_POINTS;
         for (uint32_t i = 0; i < part; i++)
             some[i] = key_of(done + i);
         meld_points(some, part, kind);
@@ -83,43 +94,47 @@ static void meld_first(uint32_t count, uint8_t kind) {
     }
 }
 
-/* Eight scans, spread over the keys, each from behind a key to before the next. */
+/* So many scans, spread over these keys, each from behind a key to before the next. */
+static void spread(struct scans *to, uint32_t count, const uint32_t *all) {
+    for (uint32_t i = 0; i < count; i++) {
+        uint32_t at = (uint32_t)((uint64_t)keys * (2 * i + 1) / (2 * count));
+        while (all[at + 1] - all[at] < 2)
+            at++;
+        to->lows[i] = all[at] + 1;
+        to->highs[i] = all[at + 1] - 1;
+    }
+}
+
 static void find_scans(void) {
     uint32_t *all = malloc(4 * (size_t)keys);
     for (uint32_t i = 0; i < keys; i++)
         all[i] = key_of(i);
     qsort(all, keys, 4, by_value);
-    for (uint32_t i = 0; i < 8; i++) {
-        uint32_t at = (uint32_t)((uint64_t)keys * (2 * i + 1) / 16);
-        while (all[at + 1] - all[at] < 2)
-            at++;
-        beside.lows[i] = all[at] + 1;
-        beside.highs[i] = all[at + 1] - 1;
-    }
+    spread(&beside.few, FEW_SCANS, all);
+    spread(&beside.many, EMUPARASOL_MOST_SCANS, all);
     free(all);
 }
 
 static int make(const char *what, uint32_t zone, const char *file, uint32_t tombstones) {
-    uint32_t some[64];
-    bool combed = !strcmp(what, "comb");
+    uint32_t some[FEW_POINTS], combs = !strcmp(what, "comb") ? FEW_COMBS : !strcmp(what, "combs") ? MANY_COMBS : 0;
     if (emuparasol_create(pool, length, n, zone) != EMUPARASOL_COMMITTED)
         return NOT_MADE;
     meld_first(keys, EMUPARASOL_KIND_PUT);
-    for (uint32_t i = 0; combed && i < COMBS; i++) {
-        some[0] = comb(i);
+    for (uint32_t i = 0; i < combs; i++) {
+        some[0] = comb(combs, i);
         meld_points(some, 1, EMUPARASOL_KIND_PUT);
     }
     beside.before_combs = word_at(pool + 12);
     find_scans();
-    for (uint32_t i = 0; combed && i < COMBS; i++) {
+    for (uint32_t i = 0; i < combs; i++) {
         for (uint32_t bit = 0; bit < 32; bit++)
-            some[bit] = comb(i) ^ (uint32_t)1 << bit;
+            some[bit] = comb(combs, i) ^ (uint32_t)1 << bit;
         meld_points(some, 32, EMUPARASOL_KIND_PUT);
     }
-    if (!combed)
+    if (combs == 0)
         meld_first(tombstones, EMUPARASOL_KIND_DELETE);
-    for (uint32_t i = 0; combed && i < tombstones; i++) {
-        some[0] = comb(i);
+    for (uint32_t i = 0; combs > 0 && i < tombstones; i++) {
+        some[0] = comb(combs, i);
         meld_points(some, 1, EMUPARASOL_KIND_DELETE);
     }
     for (int i = 0; tombstones > 0 && i < 2; i++)
@@ -134,16 +149,26 @@ static int make(const char *what, uint32_t zone, const char *file, uint32_t tomb
 
 /* The record of a call. */
 static uint64_t prepare(const char *call, uint32_t points, uint8_t *record) {
-    uint32_t some[64], lows[8], highs[8], p = word_at(pool + 12);
+    static uint32_t some[EMUPARASOL_MOST_POINTS], lows[EMUPARASOL_MOST_SCANS];
+    uint32_t p = word_at(pool + 12);
+    if (points > EMUPARASOL_MOST_POINTS)
+        exit(MISUSED);
     if (!strcmp(call, "fullest")) {
-        for (uint32_t i = 0; i < 64; i++)
-            some[i] = comb(i);
-        for (uint32_t i = 0; i < 8; i++)
-            lows[i] = highs[i] = comb(64 + i);
-        return record_of(record, beside.before_combs, some, 64, EMUPARASOL_KIND_READ, lows, highs, 8);
+        bool many = points > FEW_POINTS;
+        uint32_t combs = many ? MANY_COMBS : FEW_COMBS, reads = many ? EMUPARASOL_MOST_POINTS : FEW_POINTS;
+        for (uint32_t i = 0; i < reads; i++)
+            some[i] = comb(combs, i);
+        for (uint32_t i = reads; i < combs; i++)
+            lows[i - reads] = comb(combs, i);
+        return record_of(record, beside.before_combs, some, reads, EMUPARASOL_KIND_READ, lows, lows, combs - reads);
     }
     if (!strcmp(call, "scans"))
-        return record_of(record, p / 2, some, 0, EMUPARASOL_KIND_READ, beside.lows, beside.highs, points);
+        return record_of(record, p / 2, some, 0, EMUPARASOL_KIND_READ, beside.few.lows, beside.few.highs, points);
+    if (!strcmp(call, "full")) {
+        for (uint32_t i = 0; i < points; i++)
+            some[i] = key_of((uint32_t)((uint64_t)(keys / 2) * i / points));
+        return record_of(record, p / 2, some, points, EMUPARASOL_KIND_PUT, beside.many.lows, beside.many.highs, points / 16);
+    }
     bool other = !strcmp(call, "new") || !strcmp(call, "old"), half = !strcmp(call, "old") || !strcmp(call, "lost"), none = !strcmp(call, "late");
     bool reads = half || none || !strcmp(call, "read");
     for (uint32_t i = 0; i < points; i++)
@@ -217,7 +242,7 @@ int main(int argc, char **argv) {
     if (argc < 6)
         return MISUSED;
     const char *what = argv[1];
-    bool makes = !strcmp(what, "make") || !strcmp(what, "tombstones") || !strcmp(what, "comb"), plain = !strcmp(what, "plain");
+    bool makes = !strcmp(what, "make") || !strcmp(what, "tombstones") || !strcmp(what, "comb") || !strcmp(what, "combs"), plain = !strcmp(what, "plain");
     char **numbers = argv + (makes ? 2 : 3);
     n = (uint32_t)strtoul(numbers[0], NULL, 10);
     keys = (uint32_t)strtoul(numbers[1], NULL, 10);
@@ -231,7 +256,7 @@ int main(int argc, char **argv) {
     if (f == NULL || fread(pool, 1, length, f) != length || fread(&beside, sizeof beside, 1, f) != 1)
         return MISUSED;
     fclose(f);
-    uint8_t record[EMUPARASOL_MOST_RECORD];
+    static uint8_t record[EMUPARASOL_MOST_RECORD];
     const char *melded = behind_why(call);
     enum call which = !strcmp(call, "look")     ? LOOK
                       : !strcmp(call, "status") ? STATUS

@@ -1,19 +1,21 @@
 /* One call on a pool with 1,000 keys for at most 1,000, so that its instructions can be counted where there are no files: bench/targets runs this with
-   each word on standard input. 0: the pool is made, and no call; l: lookup of an absent key; 1: meld of 1 put; 8: of 8; 6: of 64. The pool and the
-   records are those of bench/cost.c. Prints the call's answer, or with a capital S behind the word the bytes of stack that it took. */
+   each word on standard input. 0: the pool is made, and no call; l: lookup of an absent key; 1: meld of 1 put; 8: of 8; 6: of 64; k: of 1,000, which is a
+   record of version 2; n: that record is made, and no call. The pool and the records are those of bench/cost.c. Prints the call's answer, or with a
+   capital S behind the word the bytes of stack that it took. */
 #include <stdio.h>
 
 #include "emuparasol.h"
 #include "keys.h"
 
-enum { N = 1000, PAINTED = 16384, PAINT = 0xA7 };
+enum { N = 1000, PAINTED = 49152, PAINT = 0xA7 };
 
 static uint8_t pool[EMUPARASOL_POOL_BYTES(N)];
 
 /* A record of puts of these keys. */
 static uint64_t puts_of(uint8_t *record, uint32_t snapshot, uint32_t *named, uint32_t count) {
-    uint8_t kinds[64];
-    uint64_t payloads[64], size;
+    static uint8_t kinds[EMUPARASOL_MOST_POINTS];
+    static uint64_t payloads[EMUPARASOL_MOST_POINTS];
+    uint64_t size;
     uint32_t none = 0;
     for (uint32_t i = 1; i < count; i++)
         for (uint32_t j = i; j > 0 && named[j] < named[j - 1]; j--) {
@@ -41,9 +43,10 @@ static __attribute__((noinline)) unsigned long stack(bool paint) {
 }
 
 int main(void) {
-    uint8_t record[EMUPARASOL_MOST_RECORD];
+    static uint8_t record[EMUPARASOL_MOST_RECORD];
+    static uint32_t named[EMUPARASOL_MOST_POINTS];
     char words[2] = {'0', ' '};
-    uint32_t named[64], looks, position = 0, answer = 0;
+    uint32_t looks, position = 0, answer = 0;
     uint64_t payload;
     if (fread(words, 1, 2, stdin) == 0)
         return 2;
@@ -55,7 +58,7 @@ int main(void) {
         answer += emuparasol_meld(pool, sizeof pool, record, puts_of(record, position, named, part), &looks);
         done += part;
     }
-    uint32_t points = words[0] == '6' ? 64 : words[0] == '8' ? 8 : 1;
+    uint32_t points = words[0] == 'k' || words[0] == 'n' ? 1000 : words[0] == '6' ? 64 : words[0] == '8' ? 8 : 1;
     for (uint32_t i = 0; i < points; i++)
         named[i] = key_of(N * i / points);
     uint64_t size = puts_of(record, position, named, points);
@@ -63,7 +66,7 @@ int main(void) {
         stack(true);
     if (words[0] == 'l')
         answer += emuparasol_lookup(pool, sizeof pool, key_of(N + 1), &payload, &looks);
-    else if (words[0] != '0')
+    else if (words[0] != '0' && words[0] != 'n')
         answer += emuparasol_meld(pool, sizeof pool, record, size, &looks);
     if (words[1] == 'S')
         printf("%lu\n", stack(false));

@@ -170,6 +170,12 @@ uint8_t plain_lookup(const uint8_t *pool, uint64_t pool_length, uint32_t key, ui
     return EMUPARASOL_COMMITTED;
 }
 
+/* The most points and scans of a record of version 1, and the bytes before its points. One that has more has version 2 and a byte more for each count. */
+enum { FEW_POINTS = 64, FEW_SCANS = 8, HEAD_OF_ONE = 9, HEAD_OF_TWO = 11 };
+
+/* Whether a record with so many points and scans has version 2. */
+static inline bool second(uint64_t points, uint64_t scans) { return points > FEW_POINTS || scans > FEW_SCANS; }
+
 /* A record's lists. */
 struct record {
     uint32_t snapshot;
@@ -181,15 +187,25 @@ struct record {
 };
 
 static bool parse(const uint8_t *at, uint64_t length, struct record *r) {
-    if (length < EMUPARASOL_LEAST_RECORD || length != 2 + (uint64_t)(at[0] << 8 | at[1]) || at[2] != 1)
-        return false;
-    if (at[7] > EMUPARASOL_MOST_POINTS || at[8] > EMUPARASOL_MOST_SCANS)
+    if (length < HEAD_OF_ONE || length != 2 + (uint64_t)(at[0] << 8 | at[1]))
         return false;
     const uint8_t *end = at + length;
     r->snapshot = get(at + 3);
-    r->points = at[7];
-    r->scans = at[8];
-    at += 9;
+    if (at[2] == 1) {
+        r->points = at[7];
+        r->scans = at[8];
+        if (r->points > FEW_POINTS || r->scans > FEW_SCANS)
+            return false;
+        at += HEAD_OF_ONE;
+    } else {
+        if (at[2] != 2 || length < HEAD_OF_TWO)
+            return false;
+        r->points = at[7] << 8 | at[8];
+        r->scans = at[9] << 8 | at[10];
+        if (r->points > EMUPARASOL_MOST_POINTS || r->scans > EMUPARASOL_MOST_SCANS || !second((uint64_t)r->points, (uint64_t)r->scans))
+            return false;
+        at += HEAD_OF_TWO;
+    }
     for (int i = 0; i < r->points; i++) {
         if (end - at < 5 || at[0] < EMUPARASOL_KIND_READ || at[0] > EMUPARASOL_KIND_DELETE)
             return false;
@@ -247,11 +263,12 @@ uint8_t plain_read(const uint8_t *record, uint64_t length, uint8_t *kinds, uint6
 uint8_t plain_write(uint32_t snapshot, const uint8_t *kinds, uint64_t kinds_length, const uint32_t *keys, uint64_t keys_length,
                     const uint64_t *payloads, uint64_t payloads_length, const uint32_t *lows, uint64_t lows_length, const uint32_t *highs,
                     uint64_t highs_length, uint8_t *output, uint64_t output_length, uint64_t *size) {
-    uint64_t length = 9 + 8 * lows_length;
     *size = 0;
     if (kinds_length > EMUPARASOL_MOST_POINTS || keys_length != kinds_length || payloads_length != kinds_length || lows_length > EMUPARASOL_MOST_SCANS ||
         highs_length != lows_length)
         return EMUPARASOL_MALFORMED;
+    bool wide = second(kinds_length, lows_length);
+    uint64_t length = (wide ? HEAD_OF_TWO : HEAD_OF_ONE) + 8 * lows_length;
     for (uint64_t i = 0; i < kinds_length; i++) {
         if (kinds[i] - 1u > 2 || (kinds[i] != 2 && payloads[i] != 0) || (i > 0 && keys[i] <= keys[i - 1]))
             return EMUPARASOL_MALFORMED;
@@ -265,11 +282,15 @@ uint8_t plain_write(uint32_t snapshot, const uint8_t *kinds, uint64_t kinds_leng
     uint8_t *at = output;
     *at++ = (uint8_t)((length - 2) >> 8);
     *at++ = (uint8_t)(length - 2);
-    *at++ = 1;
+    *at++ = wide ? 2 : 1;
     set(at, snapshot);
-    at[4] = (uint8_t)kinds_length;
-    at[5] = (uint8_t)lows_length;
-    at += 6;
+    at += 4;
+    if (wide)
+        *at++ = (uint8_t)(kinds_length >> 8);
+    *at++ = (uint8_t)kinds_length;
+    if (wide)
+        *at++ = (uint8_t)(lows_length >> 8);
+    *at++ = (uint8_t)lows_length;
     for (uint64_t i = 0; i < kinds_length; i++) {
         *at++ = kinds[i];
         set(at, keys[i]);
@@ -290,7 +311,7 @@ uint8_t plain_write(uint32_t snapshot, const uint8_t *kinds, uint64_t kinds_leng
 
 /* The two bytes of a record's length, one of which may lie in the carry, and whether no record has it. */
 static inline uint64_t length_of(uint8_t high, uint8_t low) { return (uint64_t)(high << 8 | low); }
-static inline bool impossible(uint64_t length) { return length < 7 || length > 903; }
+static inline bool impossible(uint64_t length) { return length < EMUPARASOL_LEAST_RECORD - 2 || length > EMUPARASOL_MOST_RECORD - 2; }
 
 uint8_t plain_cut(const uint8_t *log, uint64_t log_length, uint64_t place, uint64_t *next) {
     *next = place;

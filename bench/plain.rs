@@ -15,6 +15,12 @@ const AHEAD: u8 = 5;
 const POSITIONS_USED_UP: u8 = 6;
 const UNFIT_POOL: u8 = 7;
 
+// The most points and scans of a record, and of one of version 1 (R6, R7, R53).
+const MOST_POINTS: usize = 1024;
+const MOST_SCANS: usize = 64;
+const FEW_POINTS: usize = 64;
+const FEW_SCANS: usize = 8;
+
 // The words of a node, and those of the header, by their offsets.
 const HEIGHT: usize = 0;
 const LOW: usize = 4;
@@ -191,16 +197,30 @@ fn leaf_of(pool: &[u8], key: u32) -> Option<usize> {
     None
 }
 
-/// A record's lists.
-struct Record {
+/// A record's lists, with room for so many points and scans: those of version 1, or of version 2.
+/// So a short record does not pay for the room of a long one.
+struct Record<const POINTS: usize, const SCANS: usize> {
     snapshot: u32,
     points: usize,
     scans: usize,
-    kinds: [u8; 64],
-    keys: [u32; 64],
-    payloads: [u64; 64],
-    lows: [u32; 8],
-    highs: [u32; 8],
+    kinds: [u8; POINTS],
+    keys: [u32; POINTS],
+    payloads: [u64; POINTS],
+    lows: [u32; SCANS],
+    highs: [u32; SCANS],
+}
+
+impl<const POINTS: usize, const SCANS: usize> Record<POINTS, SCANS> {
+    const EMPTY: Self = Record {
+        snapshot: 0,
+        points: 0,
+        scans: 0,
+        kinds: [0; POINTS],
+        keys: [0; POINTS],
+        payloads: [0; POINTS],
+        lows: [0; SCANS],
+        highs: [0; SCANS],
+    };
 }
 
 /// So many bytes, and the rest, if there are so many.
@@ -208,26 +228,31 @@ fn front(bytes: &[u8], count: usize) -> Option<(&[u8], &[u8])> {
     (bytes.len() >= count).then(|| bytes.split_at(count))
 }
 
-fn parse(bytes: &[u8]) -> Option<Record> {
-    if bytes.len() < 9
-        || bytes.len() != 2 + (usize::from(bytes[0]) << 8 | usize::from(bytes[1]))
-        || bytes[2] != 1
-        || bytes[7] > 64
-        || bytes[8] > 8
-    {
+/// Points, scans and the bytes behind their numbers, if the version and the numbers fit each other.
+fn counts(bytes: &[u8]) -> Option<(usize, usize, &[u8])> {
+    let few = |points, scans| points <= FEW_POINTS && scans <= FEW_SCANS;
+    if bytes[2] == 1 {
+        let (points, scans) = (bytes[7].into(), bytes[8].into());
+        return few(points, scans).then_some((points, scans, &bytes[9..]));
+    }
+    let (head, rest) = front(bytes, 11)?;
+    let two = |at: usize| usize::from(head[at]) << 8 | usize::from(head[at + 1]);
+    let (points, scans) = (two(7), two(9));
+    let second = head[2] == 2 && !few(points, scans);
+    (second && points <= MOST_POINTS && scans <= MOST_SCANS).then_some((points, scans, rest))
+}
+
+/// Takes a record apart; none if it is malformed.
+fn parse<const POINTS: usize, const SCANS: usize>(
+    bytes: &[u8],
+    r: &mut Record<POINTS, SCANS>,
+) -> Option<()> {
+    if bytes.len() < 9 || bytes.len() != 2 + (usize::from(bytes[0]) << 8 | usize::from(bytes[1])) {
         return None;
     }
-    let mut r = Record {
-        snapshot: get(bytes, 3),
-        points: bytes[7].into(),
-        scans: bytes[8].into(),
-        kinds: [0; 64],
-        keys: [0; 64],
-        payloads: [0; 64],
-        lows: [0; 8],
-        highs: [0; 8],
-    };
-    let mut rest = &bytes[9..];
+    r.snapshot = get(bytes, 3);
+    let mut rest;
+    (r.points, r.scans, rest) = counts(bytes)?;
     for i in 0..r.points {
         let (head, behind) = front(rest, 5)?;
         rest = behind;
@@ -255,19 +280,19 @@ fn parse(bytes: &[u8]) -> Option<Record> {
             return None;
         }
     }
-    Some(r)
+    Some(())
 }
 
 /// The conflict walk: from left to right, with a cursor into the points and one into the scans.
-struct Walk<'a> {
+struct Walk<'a, const POINTS: usize, const SCANS: usize> {
     pool: &'a [u8],
-    record: &'a Record,
+    record: &'a Record<POINTS, SCANS>,
     point: usize,
     scan: usize,
     looks: u32,
 }
 
-impl Walk<'_> {
+impl<const POINTS: usize, const SCANS: usize> Walk<'_, POINTS, SCANS> {
     fn conflict(&mut self, i: u32) -> bool {
         let (n, r) = (&self.pool[node(i)..][..NODE], self.record);
         self.looks += 1;
@@ -420,7 +445,11 @@ enum Room {
     TooLittle,
 }
 
-fn room(pool: &[u8], r: &Record, limit: u32) -> Room {
+fn room<const POINTS: usize, const SCANS: usize>(
+    pool: &[u8],
+    r: &Record<POINTS, SCANS>,
+    limit: u32,
+) -> Room {
     let (n, kept) = (get(pool, LIMIT), get(pool, KEPT));
     if kept + r.points as u32 <= n {
         return Room::Enough;
@@ -455,15 +484,29 @@ fn meld(pool: &mut [u8], record: &[u8], looks: &mut u32) -> u8 {
     if !fits(pool) {
         return UNFIT_POOL;
     }
+    match record.get(2) {
+        Some(2) => meld_fit::<MOST_POINTS, MOST_SCANS>(pool, record, looks),
+        _ => meld_fit::<FEW_POINTS, FEW_SCANS>(pool, record, looks),
+    }
+}
+
+/// Melds into a pool that is fit, with room for so many points and scans.
+#[inline(never)]
+fn meld_fit<const POINTS: usize, const SCANS: usize>(
+    pool: &mut [u8],
+    record: &[u8],
+    looks: &mut u32,
+) -> u8 {
     let (p, zone) = (get(pool, POSITION), get(pool, ZONE));
     if p == NONE {
         return POSITIONS_USED_UP;
     }
     let v = p + 1;
     set(pool, POSITION, v);
-    let Some(r) = parse(record) else {
+    let mut r = Record::<POINTS, SCANS>::EMPTY;
+    if parse(record, &mut r).is_none() {
         return MALFORMED;
-    };
+    }
     if r.snapshot > p {
         return AHEAD;
     }

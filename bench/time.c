@@ -29,11 +29,16 @@ static int by_value(const void *a, const void *b) {
     return x < y ? -1 : x > y;
 }
 
+/* The most puts of a record of version 1, and the bytes of the longest record of that version. */
+enum { FEW = 64, SHORT = 905 };
+
 /* A record of puts of the keys from a number on. */
 static uint64_t puts_from(uint8_t *record, uint32_t snapshot, uint32_t first, uint32_t count) {
-    uint32_t named[64], none = 0;
-    uint64_t payloads[64], size;
-    uint8_t kinds[64];
+    static uint32_t named[EMUPARASOL_MOST_POINTS];
+    static uint64_t payloads[EMUPARASOL_MOST_POINTS];
+    static uint8_t kinds[EMUPARASOL_MOST_POINTS];
+    uint32_t none = 0;
+    uint64_t size;
     for (uint32_t i = 0; i < count; i++)
         named[i] = key_of((first + i) % keys);
     qsort(named, count, sizeof *named, by_value);
@@ -60,13 +65,15 @@ int main(int argc, char **argv) {
     n = (uint32_t)strtoul(argv[1], NULL, 10);
     keys = (uint32_t)strtoul(argv[2], NULL, 10);
     points = (uint32_t)strtoul(argv[3], NULL, 10);
+    if (points > keys || points > EMUPARASOL_MOST_POINTS)
+        return 2;
     length = EMUPARASOL_POOL_BYTES(n);
     for (int way = 0; way < WAYS; way++)
         pools[way] = malloc(length);
     if (emuparasol_create(pools[0], length, n, 4096))
         return 3;
-    for (uint32_t done = 0; done < keys; done += 64, position++) {
-        uint64_t size = puts_from(record, position, done, keys - done < 64 ? keys - done : 64);
+    for (uint32_t done = 0; done < keys; done += FEW, position++) {
+        uint64_t size = puts_from(record, position, done, keys - done < FEW ? keys - done : FEW);
         if (emuparasol_meld(pools[0], length, record, size, &looks))
             return 3;
     }
@@ -74,20 +81,22 @@ int main(int argc, char **argv) {
         memcpy(pools[way], pools[0], length);
     /* About the same work in each turn, whatever the size. */
     uint32_t calls = 400000 / (n + 50 * points) + 1;
-    uint8_t *records = malloc((size_t)calls * EMUPARASOL_MOST_RECORD);
+    /* Short records lie close together, as they always did. */
+    size_t stride = points > FEW ? EMUPARASOL_MOST_RECORD : SHORT;
+    uint8_t *records = malloc(calls * stride);
     uint64_t *sizes = malloc((size_t)calls * sizeof *sizes);
     double least[WAYS] = {0};
     for (int turn = 0; turn < TURNS; turn++) {
         uint64_t sums[WAYS];
         for (uint32_t i = 0; i < calls && points > 0; i++)
-            sizes[i] = puts_from(records + (size_t)i * EMUPARASOL_MOST_RECORD, position + i, (uint32_t)turn * 7919 + 64 * i, points);
+            sizes[i] = puts_from(records + i * stride, position + i, (uint32_t)turn * 7919 + FEW * i, points);
         for (int order = 0; order < WAYS; order++) {
             int way = (turn + order) % WAYS;
             uint64_t sum = 0, payload;
             uint32_t told;
             double began = now();
             for (uint32_t i = 0; i < calls; i++) {
-                uint8_t answer = points > 0 ? melds[way](pools[way], length, records + (size_t)i * EMUPARASOL_MOST_RECORD, sizes[i], &told)
+                uint8_t answer = points > 0 ? melds[way](pools[way], length, records + i * stride, sizes[i], &told)
                                             : lookups[way](pools[way], length, key_of(keys + 1 + i), &payload, &told);
                 sum = sum * 31 + answer + 16 * (uint64_t)told;
             }
@@ -104,7 +113,7 @@ int main(int argc, char **argv) {
                 return 4;
             }
     }
-    printf("N %5u  keys %5u  points %2u  library %9.0f ns  plain C %9.0f ns  plain Rust %9.0f ns  library/C %.2f  library/Rust %.2f\n", n, keys, points,
+    printf("N %5u  keys %5u  points %4u  library %9.0f ns  plain C %9.0f ns  plain Rust %9.0f ns  library/C %.2f  library/Rust %.2f\n", n, keys, points,
            least[0], least[1], least[2], least[0] / least[1], least[0] / least[2]);
     return 0;
 }

@@ -25,7 +25,7 @@ static void submit(struct card *card, const char *what, uint8_t *record, uint64_
 }
 
 /* What a card finds behind the last record that it has melded. */
-static void find(const struct card *card) {
+static void find(struct card *card) {
     uint8_t answer = card_tail(card);
     printf("  %s finds behind its last record: %u %s\n", name(card), (unsigned)answer,
            answer == EMUPARASOL_COMMITTED ? "the log's end" : emuparasol_answer_name(answer));
@@ -42,7 +42,7 @@ static void print_bytes(const char *what, const uint8_t *bytes, uint64_t count) 
 
 /* Ten bytes of the left card's record reach the flash. Then the right card appends one of its own. */
 static void torn(bool cut_off) {
-    uint8_t one[EMUPARASOL_MOST_RECORD], other[EMUPARASOL_MOST_RECORD], first[EMUPARASOL_MOST_RECORD];
+    uint8_t one[STAGE_PUT], other[STAGE_PUT], first[STAGE_PUT];
     uint64_t length;
     stage_clear();
     length = stage_put(0, 7, 100, one);
@@ -68,7 +68,7 @@ static void torn(bool cut_off) {
 
 /* A record that reached the flash, though the flash said no, is not appended a second time. */
 static void refused_late(void) {
-    uint8_t record[EMUPARASOL_MOST_RECORD];
+    uint8_t record[STAGE_PUT];
     uint64_t length = stage_put(0, 7, 100, record);
     stage_clear();
     stage_fail_after(length);
@@ -78,7 +78,7 @@ static void refused_late(void) {
 
 /* Two records on flash. Unless the log was restored from a copy, the length of the second one reads as if it were erased. */
 static void lost_length(bool restored) {
-    uint8_t one[EMUPARASOL_MOST_RECORD], other[EMUPARASOL_MOST_RECORD];
+    uint8_t one[STAGE_PUT], other[STAGE_PUT];
     stage_clear();
     stage_leave(one, stage_put(0, 7, 100, one));
     uint64_t length = stage_put(1, 8, 300, other);
@@ -103,14 +103,14 @@ static void begin(struct tenant *tenant) {
 }
 
 static void finish(const struct tenant *tenant) {
-    uint8_t record[EMUPARASOL_MOST_RECORD];
+    uint8_t record[STAGE_PUT];
     submit(tenant->card, "one more", record, stage_put(tenant->snapshot, 7, tenant->seen + 1, record));
     both_catch_up();
 }
 
 /* Two tenants raise key 7, which is 100, at the same time. */
 static void raised_twice(bool late) {
-    uint8_t record[EMUPARASOL_MOST_RECORD];
+    uint8_t record[STAGE_PUT];
     struct tenant one = {&left, 0, 0}, other = {&right, 0, 0};
     stage_clear();
     quiet = true;
@@ -132,7 +132,7 @@ static void raised_twice(bool late) {
 
 /* A record of the left card waits while the right card appends so many others. If it is refreshed, then after each hundred of them. */
 static void waited(uint32_t others, bool refreshed, const char *what) {
-    uint8_t waiting[EMUPARASOL_MOST_RECORD], record[EMUPARASOL_MOST_RECORD];
+    uint8_t waiting[STAGE_PUT], record[STAGE_PUT];
     uint64_t length = stage_put(0, 7, 100, waiting);
     uint32_t hundred = 0;
     stage_clear();
@@ -152,7 +152,7 @@ static void waited(uint32_t others, bool refreshed, const char *what) {
 
 /* The same three records for both cards, but the right one melds the first a second time. */
 static void melded_twice(void) {
-    uint8_t record[EMUPARASOL_MOST_RECORD];
+    uint8_t record[STAGE_PUT];
     uint32_t looks;
     uint64_t length = stage_put(0, 7, 100, record);
     stage_clear();
@@ -166,7 +166,7 @@ static void melded_twice(void) {
 
 /* The same two records for both cards, but the right one melds the first with a byte less, and goes on behind it. */
 static void melded_short(void) {
-    uint8_t record[EMUPARASOL_MOST_RECORD];
+    uint8_t record[STAGE_PUT];
     uint32_t looks;
     uint64_t length = stage_put(0, 7, 100, record);
     stage_clear();
@@ -206,7 +206,7 @@ static void built_again(struct card *card) {
 
 /* A bit of the right card's payload of key 7 falls over: the pool is still fit, of another state. Node 0 is the leaf of the first key (docs/LAYOUT.md). */
 static void flipped(void) {
-    uint8_t record[EMUPARASOL_MOST_RECORD];
+    uint8_t record[STAGE_PUT];
     stage_clear();
     quiet = true;
     card_submit(&left, record, stage_put(0, 7, 100, record));

@@ -11,11 +11,17 @@ void card_start(struct card *card) {
     card->carried = 0;
 }
 
-/* The record that begins at a place of the log. Answers 0 with its bytes in part and its size; the size is 0 if the log ends there. Answers 10 if the log
-   stops within it, 11 if no record can begin so: the size is 0 then. */
-static uint8_t record_at(uint64_t place, uint8_t part[EMUPARASOL_MOST_RECORD], uint64_t *size) {
-    uint64_t got = flash_read(place, part, EMUPARASOL_MOST_RECORD); /* fewer only where the log has no more */
-    return emuparasol_cut(part, got, 0, size);
+/* The size of the record that begins at a place of the log. Answers 0 with it; the size is 0 if the log ends there. Answers 10 if the log stops within the
+   record, 11 if no record can begin so: the size is 0 then. */
+static uint8_t record_at(struct card *card, uint64_t place, uint64_t *size) {
+    enum { SHORT = 256 };                                /* few records are longer */
+    uint64_t got = flash_read(place, card->room, SHORT); /* fewer only where the log has no more */
+    uint8_t answer = emuparasol_cut(card->room, got, 0, size);
+    if (answer == EMUPARASOL_TORN_LOG && got == SHORT) { /* this one may be: all that a record can have, from its first byte again */
+        got = flash_read(place, card->room, sizeof card->room);
+        answer = emuparasol_cut(card->room, got, 0, size);
+    }
+    return answer;
 }
 
 /* Takes a page's bytes, which go on where the card is. A page may end anywhere: what it has of a record whose end is on the next one is carried. Answers 0
@@ -78,21 +84,20 @@ uint8_t card_begin(const struct card *card, uint32_t *snapshot) {
 
 /* Brings a record that waits up to where the card is, in its own bytes. Answers 0 if it is. Answers 5 if it was made on a card that is further than this
    one, or 7 if the pool was damaged: it is as before, and can be tried again later. After 1, 2 or 4 it can be thrown away. */
-uint8_t card_refresh(const struct card *card, uint8_t *record, uint64_t length) {
-    uint8_t output[EMUPARASOL_MOST_RECORD];
+uint8_t card_refresh(struct card *card, uint8_t *record, uint64_t length) {
     uint64_t offset, size;
-    uint8_t answer = emuparasol_refresh(card->pool, sizeof card->pool, record, length, output, sizeof output);
-    if (emuparasol_in_force(answer, record, length, output, sizeof output, &offset, &size))
-        memcpy(record, output + offset, size);
+    uint8_t answer = emuparasol_refresh(card->pool, sizeof card->pool, record, length, card->room, sizeof card->room);
+    if (emuparasol_in_force(answer, record, length, card->room, sizeof card->room, &offset, &size))
+        memcpy(record, card->room + offset, size);
     return answer;
 }
 
-/* Appends a record, with the log's lock held. The last whole record ends at this place or behind it. Answers 0 if the record is in the log, and else 11, or
-   8 if the flash refused. */
-static uint8_t append(uint64_t place, const uint8_t *record, uint64_t length) {
-    uint8_t part[EMUPARASOL_MOST_RECORD], answer;
-    uint64_t size;
-    while ((answer = record_at(place, part, &size)) == EMUPARASOL_COMMITTED && size > 0)
+/* Appends a record, with the log's lock held. The last whole record ends at the card's place or behind it. Answers 0 if the record is in the log, and else
+   11, or 8 if the flash refused. */
+static uint8_t append(struct card *card, const uint8_t *record, uint64_t length) {
+    uint8_t answer;
+    uint64_t place = card->place, size;
+    while ((answer = record_at(card, place, &size)) == EMUPARASOL_COMMITTED && size > 0)
         place += size; /* what other cards have appended since; it is melded later */
     /* A torn log: what stands behind the last whole record is of an append that failed. Nobody is writing it, and no card has melded it. */
     if (answer == EMUPARASOL_TORN_LOG && !flash_cut_off(place))
@@ -101,7 +106,7 @@ static uint8_t append(uint64_t place, const uint8_t *record, uint64_t length) {
     if (answer == EMUPARASOL_IMPOSSIBLE_LENGTH)
         return answer;
     /* If the flash refuses, the log itself says whether the record is there after all. */
-    if (flash_append(record, length) || flash_read(place, part, length) == length)
+    if (flash_append(record, length) || flash_read(place, card->room, length) == length)
         return EMUPARASOL_COMMITTED;
     return EMUPARASOL_OUTPUT_SHORT;
 }
@@ -116,26 +121,24 @@ uint8_t card_submit(struct card *card, uint8_t *record, uint64_t length) {
     if (answer != EMUPARASOL_COMMITTED)
         return answer;
     flash_lock();
-    answer = append(card->place, record, length);
+    answer = append(card, record, length);
     flash_unlock();
     return answer;
 }
 
 /* What stands in the log where the card is, for its owner. Answers 0 if that is the log's end, or a record that is still to be melded; 10 if the log is torn
    there, by an append that goes on just now or was cut short; 11 if an impossible length stands there, and the flash is sick. */
-uint8_t card_tail(const struct card *card) {
-    uint8_t part[EMUPARASOL_MOST_RECORD];
+uint8_t card_tail(struct card *card) {
     uint64_t size;
-    return record_at(card->place, part, &size);
+    return record_at(card, card->place, &size);
 }
 
 /* Whether the pool has as many positions as the log has records before the card's place. If not, the card has parted from the others: card_start. */
-bool card_in_step(const struct card *card) {
-    uint8_t part[EMUPARASOL_MOST_RECORD];
+bool card_in_step(struct card *card) {
     uint32_t position, records = 0;
     uint64_t place = 0, size;
     while (place < card->place) {
-        record_at(place, part, &size);
+        record_at(card, place, &size);
         if (size == 0)
             return false;
         place += size;

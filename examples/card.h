@@ -16,6 +16,7 @@ struct card {
     uint32_t records;                      /* how many were melded */
     uint8_t carry[EMUPARASOL_CARRY_BYTES]; /* the front of a record that goes on in the next page */
     uint64_t carried;                      /* how many bytes of it are there */
+    uint8_t room[EMUPARASOL_MOST_RECORD];  /* for a record that is looked at or refreshed: it is long for a stack */
 };
 
 /* The firmware's own. */
@@ -39,9 +40,9 @@ void card_verdict(struct card *card, uint32_t position, uint8_t answer);
 void card_start(struct card *card);
 uint8_t card_catch_up(struct card *card);
 uint8_t card_begin(const struct card *card, uint32_t *snapshot);
-uint8_t card_refresh(const struct card *card, uint8_t *record, uint64_t length);
+uint8_t card_refresh(struct card *card, uint8_t *record, uint64_t length);
 uint8_t card_submit(struct card *card, uint8_t *record, uint64_t length);
-uint8_t card_tail(const struct card *card);
-bool card_in_step(const struct card *card);
+uint8_t card_tail(struct card *card);
+bool card_in_step(struct card *card);
 
 #endif

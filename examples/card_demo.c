@@ -16,7 +16,7 @@ static void both_catch_up(void) {
 
 /* A put of one key, by a card whose tenant saw the log up to this snapshot. */
 static void submit(struct card *card, uint32_t snapshot, uint32_t key, uint64_t payload) {
-    uint8_t record[EMUPARASOL_MOST_RECORD];
+    uint8_t record[STAGE_PUT];
     uint8_t answer = card_submit(card, record, stage_put(snapshot, key, payload, record));
     printf("%s submits %lu = %lu: %u %s\n", card == &left ? "left" : "right", (unsigned long)key, (unsigned long)payload, (unsigned)answer,
            answer == EMUPARASOL_COMMITTED ? "appended" : emuparasol_answer_name(answer));
@@ -38,7 +38,8 @@ static void tail(const char *what, const uint8_t *bytes, uint64_t count) {
 }
 
 int main(void) {
-    uint8_t record[EMUPARASOL_MOST_RECORD], erased[904];
+    static uint8_t erased[EMUPARASOL_MOST_RECORD];
+    uint8_t record[STAGE_PUT];
     uint32_t n, z, position, kept, tombstones;
     stage_clear();
     /* Both lease port 7 at the same time: the left card is the first to get the lock. The right one's record is there too, and every card refuses it. */
@@ -68,10 +69,11 @@ int main(void) {
     tail("a record's first byte", record, 1);
     tail("five bytes of a record", record, 5);
     tail("all bytes of a record but one", record, 21);
-    tail("the length 903", (const uint8_t[]){0x03, 0x87}, 2);
-    tail("the length 904", (const uint8_t[]){0x03, 0x88}, 2);
+    tail("the length 13833", (const uint8_t[]){0x36, 0x09}, 2);
+    tail("the length 13834", (const uint8_t[]){0x36, 0x0A}, 2);
     tail("the length 6", (const uint8_t[]){0x00, 0x06}, 2);
-    tail("904 bytes of FF", erased, sizeof erased);
+    tail("904 bytes of FF", erased, 904);
+    tail("13835 bytes of FF", erased, sizeof erased);
     /* Nothing is appended behind such bytes, also if they come while the card waits for the lock; nor are they cut off. */
     stage_meanwhile(erased_bytes);
     submit(&right, 4, 9, 400);

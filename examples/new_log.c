@@ -21,7 +21,7 @@ static void both_catch_up(void) {
 }
 
 static void submit(uint32_t snapshot, uint32_t key, uint64_t payload) {
-    uint8_t record[EMUPARASOL_MOST_RECORD];
+    uint8_t record[STAGE_PUT];
     uint8_t answer = card_submit(&left, record, stage_put(snapshot, key, payload, record));
     printf("left submits %lu: %u %s\n", (unsigned long)key, (unsigned)answer, answer == EMUPARASOL_COMMITTED ? "appended" : emuparasol_answer_name(answer));
 }
@@ -33,18 +33,21 @@ static void print_status(void) {
            (unsigned long)tombstones, stage_payload(&left, 1), stage_payload(&left, 2), stage_payload(&left, 150));
 }
 
+/* So many puts a record of the new log has at most: with more it would have version 2, which every card would have to know. */
+enum { PUTS = 64 };
+
 /* The records of the new log as they are made: the one that is being filled, and how many are behind it. */
 struct carried {
-    uint8_t kinds[EMUPARASOL_MOST_POINTS];
-    uint32_t keys[EMUPARASOL_MOST_POINTS];
-    uint64_t payloads[EMUPARASOL_MOST_POINTS];
+    uint8_t kinds[PUTS];
+    uint32_t keys[PUTS];
+    uint64_t payloads[PUTS];
     uint64_t points;
     uint32_t records;
 };
 
 /* Appends the record that is being filled, if there is anything in it. Its snapshot is the position before its own. */
 static void finish(struct carried *carried) {
-    uint8_t record[EMUPARASOL_MOST_RECORD];
+    uint8_t record[9 + PUTS * 13];
     uint64_t size, points = carried->points;
     if (points == 0)
         return;
@@ -68,7 +71,7 @@ static void carry(const uint8_t *pool, uint32_t node, struct carried *carried) {
         carried->keys[carried->points] = word(at + 4);
         carried->payloads[carried->points] = (uint64_t)word(at + 16) << 32 | word(at + 20);
         carried->points++;
-        if (carried->points == EMUPARASOL_MOST_POINTS)
+        if (carried->points == PUTS)
             finish(carried);
     }
 }
@@ -104,7 +107,7 @@ static void nearly_used_up(void) {
 }
 
 int main(void) {
-    uint8_t record[EMUPARASOL_MOST_RECORD];
+    uint8_t record[STAGE_PUT];
     const uint8_t kind = EMUPARASOL_KIND_DELETE;
     const uint32_t key = 2;
     const uint64_t none = 0;

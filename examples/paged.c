@@ -15,9 +15,10 @@ void card_verdict(struct card *card, uint32_t position, uint8_t answer) {
 
 /* Appends a record that puts so many keys from a first one on, with so many scans behind them. */
 static void append(uint32_t snapshot, uint32_t first, uint64_t points, uint64_t scans) {
-    uint8_t kinds[EMUPARASOL_MOST_POINTS], record[EMUPARASOL_MOST_RECORD];
-    uint32_t keys[EMUPARASOL_MOST_POINTS], lows[EMUPARASOL_MOST_SCANS], highs[EMUPARASOL_MOST_SCANS];
-    uint64_t payloads[EMUPARASOL_MOST_POINTS], size;
+    static uint8_t kinds[EMUPARASOL_MOST_POINTS], record[EMUPARASOL_MOST_RECORD];
+    static uint32_t keys[EMUPARASOL_MOST_POINTS], lows[EMUPARASOL_MOST_SCANS], highs[EMUPARASOL_MOST_SCANS];
+    static uint64_t payloads[EMUPARASOL_MOST_POINTS];
+    uint64_t size;
     for (uint32_t i = 0; i < points; i++) {
         kinds[i] = EMUPARASOL_KIND_PUT;
         keys[i] = first + i;
@@ -50,7 +51,7 @@ static void over(const char *where, const uint8_t *bytes, uint64_t count) {
 }
 
 static void right_submits(void) {
-    uint8_t record[EMUPARASOL_MOST_RECORD];
+    uint8_t record[STAGE_PUT];
     before = 0;
     printf("  right cuts it off meanwhile, and appends its own: %u\n", (unsigned)card_submit(&right, record, stage_put(0, 9, 900, record)));
 }
@@ -59,7 +60,7 @@ int main(void) {
     const uint8_t malformed[] = {0x00, 0x07, 0x09, 0x00, 0x00, 0x00, 0x00, 0x00, 0x00};
     stage_clear();
     append(0, 1, 64, 0);   /* on four pages of 256 bytes */
-    append(1, 101, 64, 8); /* the longest */
+    append(1, 101, 64, 8); /* the longest of version 1 */
     append(0, 5, 1, 0);    /* in conflict with the first */
     stage_leave(malformed, sizeof malformed);
     append(9, 6, 1, 0); /* ahead */
@@ -67,6 +68,8 @@ int main(void) {
     append(6, 301, 3, 8);  /* up to the last byte of a page of 256 */
     append(7, 401, 14, 8); /* up to the last byte but one: of the next length each page has one byte */
     append(8, 501, 1, 0);
+    append(9, 1, 600, 64); /* of version 2: on more than thirty pages of 256 bytes */
+    append(8, 600, 1, 9);  /* of version 2 by its scans, and in conflict with the one before */
     read_on_pages(&left, 256);
     read_on_pages(&right, 2048);
     printf("pools %s\n", stage_pools());

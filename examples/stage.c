@@ -4,7 +4,7 @@
 
 #include "stage.h"
 
-enum { ROOM = 16384 };
+enum { ROOM = 65536 };
 
 struct card left, right;
 
@@ -89,11 +89,11 @@ void stage_leave(const uint8_t *bytes, uint64_t count) {
 
 uint64_t stage_length(void) { return written; }
 
-uint64_t stage_put(uint32_t snapshot, uint32_t key, uint64_t payload, uint8_t *record) {
+uint64_t stage_put(uint32_t snapshot, uint32_t key, uint64_t payload, uint8_t record[STAGE_PUT]) {
     const uint8_t kind = EMUPARASOL_KIND_PUT;
     const uint32_t none = 0;
     uint64_t size;
-    emuparasol_write(snapshot, &kind, 1, &key, 1, &payload, 1, &none, 0, &none, 0, record, EMUPARASOL_MOST_RECORD, &size);
+    emuparasol_write(snapshot, &kind, 1, &key, 1, &payload, 1, &none, 0, &none, 0, record, STAGE_PUT, &size);
     return size;
 }
 

@@ -6,6 +6,9 @@
 
 extern struct card left, right;
 
+/* The bytes of a record that puts one key. */
+enum { STAGE_PUT = 22 };
+
 /* An empty log, and both cards started on it. */
 void stage_clear(void);
 /* What another card does while the next one waits for the lock. */
@@ -21,7 +24,7 @@ void stage_leave(const uint8_t *bytes, uint64_t count);
 /* How many bytes are in the log. */
 uint64_t stage_length(void);
 /* A record that puts one key. Answers its length. */
-uint64_t stage_put(uint32_t snapshot, uint32_t key, uint64_t payload, uint8_t *record);
+uint64_t stage_put(uint32_t snapshot, uint32_t key, uint64_t payload, uint8_t record[STAGE_PUT]);
 /* The payload that the card has under a key, 0 if there is none. */
 unsigned long stage_payload(const struct card *card, uint32_t key);
 /* Whether both cards have the same bytes in their pools, in words. */

@@ -37,7 +37,7 @@ enum emuparasol_answer {
     EMUPARASOL_OUTPUT_SHORT = 8,      /* less room lent than needed */
     EMUPARASOL_BAD_LIMITS = 9,        /* N or Z outside its range, or a pool of another size */
     EMUPARASOL_TORN_LOG = 10,         /* too few bytes: the log merely stops, within a record */
-    EMUPARASOL_IMPOSSIBLE_LENGTH = 11 /* two bytes that are no length of a record: below 7 or above 903 */
+    EMUPARASOL_IMPOSSIBLE_LENGTH = 11 /* two bytes that are no length of a record: below 7 or above 13,833 */
 };
 
 /* The name of an answer, as the rules have it (R3); "unknown answer" for any other number. Plain C, no part of the archive. */
@@ -76,11 +76,13 @@ enum emuparasol_happened {
 
 /* The bytes of a pool for n keys. */
 #define EMUPARASOL_POOL_BYTES(n) ((uint64_t)64 + (uint64_t)64 * (uint64_t)(n))
-/* The bytes of the shortest and of the longest record, and the most points and scans in one. */
+/* The bytes of the shortest and of the longest record, and the most points and scans in one. A record with at most 64 points and at most 8 scans has
+   version 1 and 905 bytes at most; one with more of either has version 2 (R53). Every card on a log has to know version 2 before the first such record is
+   written: a card of before would part from the others there (docs/FIRMWARE.md, "Moving to version 2"). */
 #define EMUPARASOL_LEAST_RECORD 9
-#define EMUPARASOL_MOST_RECORD 905
-#define EMUPARASOL_MOST_POINTS 64
-#define EMUPARASOL_MOST_SCANS 8
+#define EMUPARASOL_MOST_RECORD 13835
+#define EMUPARASOL_MOST_POINTS 1024
+#define EMUPARASOL_MOST_SCANS 64
 /* The bytes of a carry, in which a record waits for its rest. */
 #define EMUPARASOL_CARRY_BYTES EMUPARASOL_MOST_RECORD
 
@@ -109,8 +111,8 @@ uint8_t emuparasol_meld(uint8_t *pool, uint64_t pool_length, const uint8_t *reco
    applies:
    - carry_length is not EMUPARASOL_CARRY_BYTES, or no call leaves a carry with such bytes and such a number: REFUSED, answers 8. Pool, carry and
      *carried are as before, and *taken is 0.
-   - The two bytes of a length below 7 or above 903 are carried: REFUSED, answers 11, to every part from then on. Pool, carry and *carried are as before,
-     and *taken is 0.
+   - The two bytes of a length below 7 or above 13,833 are carried: REFUSED, answers 11, to every part from then on. Pool, carry and *carried are as
+     before, and *taken is 0.
    - The two bytes of such a length are in: REFUSED, answers 11. They are the carry's first two now, *carried is 2, and *taken is how many of them the
      part had, 1 or 2. The pool is as before.
    - The record's last byte is in, and the pool is unfit: REFUSED, answers 7. Pool, carry and *carried are as before, and *taken is 0.
@@ -138,8 +140,8 @@ uint8_t emuparasol_explain(const uint8_t *pool, uint64_t pool_length, const uint
                            uint32_t *position, uint64_t *point, uint64_t *scan, uint32_t *lag, uint32_t *keys);
 
 /* Brings a record that has waited up to the pool's position: the first that applies of 7, 4, 5, 2, 1, 8 and 0. On 0 the front of the output is the
-   same record with the pool's position as its snapshot, and the rest of the output is as before; on any other answer all of it is. The room needed
-   is original_length. */
+   same record, in the same version, with the pool's position as its snapshot, and the rest of the output is as before; on any other answer all of it
+   is. The room needed is original_length; EMUPARASOL_MOST_RECORD bytes are always enough. */
 uint8_t emuparasol_refresh(const uint8_t *pool, uint64_t pool_length, const uint8_t *original, uint64_t original_length, uint8_t *output,
                            uint64_t output_length);
 
@@ -154,15 +156,16 @@ uint8_t emuparasol_check(const uint8_t *record, uint64_t record_length);
 
 /* Takes a record apart. Answers 0: the fronts of the lists hold the kinds, keys and payloads of its *points points (payload 0 for a read or a
    delete) and the low and high ends of its *scans scans, the rest of each list is as before, and *snapshot is its snapshot. Answers 4 for a
-   malformed record, then 8 if a list is too short: the lists are as before and *snapshot, *points and *scans are 0. Lists of 64 points and 8 scans
-   are always enough. */
+   malformed record, then 8 if a list is too short: the lists are as before and *snapshot, *points and *scans are 0. Lists of 1,024 points and 64
+   scans are always enough. Shorter ones may be lent where only small records are met: 64 points and 8 scans for those of version 1. */
 uint8_t emuparasol_read(const uint8_t *record, uint64_t record_length, uint8_t *kinds, uint64_t kinds_length, uint32_t *keys, uint64_t keys_length,
                         uint64_t *payloads, uint64_t payloads_length, uint32_t *lows, uint64_t lows_length, uint32_t *highs, uint64_t highs_length,
                         uint32_t *snapshot, uint64_t *points, uint64_t *scans);
 
 /* Writes a record from lists: kinds, keys and payloads of equal length (payload 0 for a read or a delete), lows and highs of equal length. Answers 0:
-   the record is the first *size bytes of the output and the rest is as before. Answers 4 if the lists break a rule, then 8 if the output is shorter
-   than the record: the output is as before and *size is 0. */
+   the record is the first *size bytes of the output and the rest is as before. At most 64 points and 8 scans give version 1, more of either version 2.
+   Answers 4 if the lists break a rule, also with more than 1,024 points or 64 scans, then 8 if the output is shorter than the record: the output is as
+   before and *size is 0. EMUPARASOL_MOST_RECORD bytes are always enough. */
 uint8_t emuparasol_write(uint32_t snapshot, const uint8_t *kinds, uint64_t kinds_length, const uint32_t *keys, uint64_t keys_length,
                          const uint64_t *payloads, uint64_t payloads_length, const uint32_t *lows, uint64_t lows_length, const uint32_t *highs,
                          uint64_t highs_length, uint8_t *output, uint64_t output_length, uint64_t *size);
@@ -170,7 +173,7 @@ uint8_t emuparasol_write(uint32_t snapshot, const uint8_t *kinds, uint64_t kinds
 /* What stands at a place of a log. Answers 0 with *next above place: a record, up to *next; it need not be well formed. Answers 0 with *next equal to
    place: the log ends exactly here. Answers 10 with *next equal to place: there are too few bytes, and the log merely stops; fewer than two are left, or
    fewer than the record has, or the place is past the end. Answers 11 with *next equal to place: the two bytes there are no length of a record, below 7
-   or above 903, however many bytes follow them. */
+   or above 13,833, however many bytes follow them. */
 uint8_t emuparasol_cut(const uint8_t *log, uint64_t log_length, uint64_t place, uint64_t *next);
 
 #ifdef __cplusplus

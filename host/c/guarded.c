@@ -1,8 +1,8 @@
 /* The library's compiled code against plain C (bench/plain.c), call by call, in memory where nothing can be touched unseen:
      guarded [SECONDS [SEED]]
    What is lent stands at the very end or the very start of a mapped area, with unmapped pages around it; what is lent to be read is lent through a
-   mapping that cannot be written; what has no elements is often lent as NULL. Pools and records are made at random, whole and damaged, logs are cut
-   anywhere, carries are lent as a call has left them and as none does, and all twelve functions are called. After each call the answer, every number and
+   mapping that cannot be written; what has no elements is often lent as NULL. Pools and records of both versions are made at random, whole and damaged, logs
+   are cut anywhere, carries are lent as a call has left them and as none does, and all twelve functions are called. After each call the answer, every number and
    every byte of every area must be what plain C leaves. At the first difference, and at an access that is not allowed, the seed and the call are
    printed and the status is 1. The same seed makes the same calls. */
 #define _DEFAULT_SOURCE
@@ -17,10 +17,11 @@
 #include "../../bench/plain.h"
 #include "emuparasol.h"
 
-enum { PAGE = 65536, FILLED = 0xA5, MOST_N = 1000, POOL_ROOM = 64 + 64 * MOST_N + 256, RECORD_ROOM = 1200, LIST = 70, PAIRS = 10 };
+enum { PAGE = 65536, FILLED = 0xA5, MOST_N = 1500, POOL_ROOM = 64 + 64 * MOST_N + 256, RECORD_ROOM = EMUPARASOL_MOST_RECORD + 300 };
+enum { LIST = EMUPARASOL_MOST_POINTS + 6, PAIRS = EMUPARASOL_MOST_SCANS + 6, FEW_POINTS = 64, FEW_SCANS = 8 };
 
 static uint64_t seed, calls, state;
-static unsigned long answers[16], happenings[4], completed, points_blamed, scans_blamed, lags_told, keys_told;
+static unsigned long answers[16], happenings[4], completed, points_blamed, scans_blamed, lags_told, keys_told, wide_melded[16], wide_fed, wide_read;
 static const char *doing = "";
 
 /* Random numbers (xorshift64*), below a limit. */
@@ -150,10 +151,33 @@ static struct {
     uint8_t kinds[LIST];
 } lists;
 
+/* How many points and scans a record is to have: few as a rule, about a limit of a version, or any number. */
+static uint32_t some_points(void) {
+    static const uint32_t edges[] = {FEW_POINTS - 1, FEW_POINTS, FEW_POINTS + 1, EMUPARASOL_MOST_POINTS - 1, EMUPARASOL_MOST_POINTS, EMUPARASOL_MOST_POINTS + 1};
+    if (one_in(40))
+        return one_in(2) ? edges[below(6)] : below(EMUPARASOL_MOST_POINTS + 2);
+    return one_in(16) ? below(FEW_POINTS + 2) : below(7);
+}
+static uint32_t some_scans(void) {
+    static const uint32_t edges[] = {FEW_SCANS, FEW_SCANS + 1, EMUPARASOL_MOST_SCANS, EMUPARASOL_MOST_SCANS + 1};
+    if (one_in(40))
+        return one_in(2) ? edges[below(4)] : below(EMUPARASOL_MOST_SCANS + 2);
+    return one_in(3) ? below(one_in(8) ? FEW_SCANS + 1 : 3) : 0;
+}
+
+/* So many numbers that rise, from a small one on. */
+static void rising(uint32_t *to, uint32_t count) {
+    uint32_t at = below(40), step = one_in(3) ? 0x00100001u : 1 + below(4);
+    for (uint32_t i = 0; i < count; i++, at += step)
+        to[i] = at;
+}
+
 static void make_lists(void) {
-    uint32_t p = word_at(pool + 12), wanted = one_in(16) ? below(66) : below(7), ends[2 * PAIRS];
+    uint32_t p = word_at(pool + 12), wanted = some_points(), ends[2 * PAIRS];
+    bool in_order = wanted >= FEW_POINTS, calm = in_order && !one_in(3); /* a calm record writes few keys, and commits also into a small pool */
     lists.snapshot = one_in(12) ? any() : p - below(one_in(4) ? 12 : 3) + (one_in(20) ? 1 : 0);
-    for (uint32_t i = 0; i < wanted; i++)
+    rising(lists.keys, wanted);
+    for (uint32_t i = 0; i < wanted && !in_order; i++)
         lists.keys[i] = wanted > 30 ? below(200) : key();
     qsort(lists.keys, wanted, 4, by_value);
     lists.points = 0;
@@ -161,11 +185,12 @@ static void make_lists(void) {
         if (i == 0 || lists.keys[i] != lists.keys[lists.points - 1])
             lists.keys[lists.points++] = lists.keys[i];
     for (uint64_t i = 0; i < lists.points; i++) {
-        lists.kinds[i] = (uint8_t)(one_in(3) ? 1 + below(3) : 2 + below(2));
+        lists.kinds[i] = (uint8_t)(calm && !one_in(200) ? EMUPARASOL_KIND_READ : one_in(3) ? 1 + below(3) : 2 + below(2));
         lists.payloads[i] = lists.kinds[i] == 2 ? (uint64_t)any() << 32 | any() : 0;
     }
-    lists.scans = one_in(3) ? below(one_in(8) ? 9 : 3) : 0;
-    for (uint64_t i = 0; i < 2 * lists.scans; i++)
+    lists.scans = some_scans();
+    rising(ends, 2 * (uint32_t)lists.scans);
+    for (uint64_t i = 0; i < 2 * lists.scans && lists.scans < FEW_SCANS; i++)
         ends[i] = key();
     qsort(ends, 2 * lists.scans, 4, by_value);
     for (uint64_t i = 0; i < lists.scans; i++) {
@@ -184,8 +209,9 @@ static uint64_t make_record(uint8_t *record) {
             break;
     }
     if (one_in(8)) {
-        switch (below(5)) {
+        switch (below(6)) {
         case 0: record[below((uint32_t)size)] ^= (uint8_t)(1u << below(8)); break;
+        case 5: record[2 + below(7)] ^= (uint8_t)(1u << below(8)); break; /* version, snapshot, the counts */
         case 1: record[below((uint32_t)size)] = (uint8_t)any(); break;
         case 2: size = below((uint32_t)size + 1); break;
         case 3:
@@ -270,6 +296,8 @@ static void try_meld(uint8_t *bytes, uint64_t length) {
     uint32_t *to = number(0, 4);
     uint8_t answer = emuparasol_meld(lent(&pool_area), length, shown(&record_area), size, to);
     answered(answer, plain_meld(bytes, length, record, size, &looks));
+    if (size > 2 && record[2] == 2)
+        wide_melded[answer & 15]++;
     told(0, &looks, "the looks differ");
     same(&pool_area, bytes, "the pools differ");
     same(&record_area, record, "the record was written");
@@ -333,19 +361,21 @@ static uint8_t feed(uint8_t *bytes, uint64_t length, uint8_t *carrying, uint64_t
     same(&record_area, stream, "the part was written");
     happenings[happened & 3]++;
     completed += happened == EMUPARASOL_DECIDED && before > 0;
+    wide_fed += happened == EMUPARASOL_DECIDED && before > 0 && answer != EMUPARASOL_MALFORMED && carrying[2] == 2;
     return answer;
 }
 
 /* A carry of any size, with any bytes, and any number of them carried: a length that can be or cannot at its front, and a count about as large. */
 static void feed_anything(uint8_t *bytes, uint64_t length, uint64_t part) {
     static uint8_t odd[RECORD_ROOM];
-    static const uint64_t rooms[] = {0, 1, 2, EMUPARASOL_CARRY_BYTES - 1, EMUPARASOL_CARRY_BYTES + 1, RECORD_ROOM};
-    static const uint64_t lengths[] = {0, 6, 7, 8, 903, 904, 65535};
-    uint64_t said = one_in(2) ? lengths[below(7)] : below(1000), taken, room = one_in(3) ? rooms[below(6)] : EMUPARASOL_CARRY_BYTES;
-    uint64_t counts[] = {0, 1, 2, 3, said, said + 1, said + 2, said + 3, below(1000), ~(uint64_t)below(3), (uint64_t)any() << 32 | any()};
+    static const uint64_t rooms[] = {0, 1, 2, 905, EMUPARASOL_CARRY_BYTES - 1, EMUPARASOL_CARRY_BYTES + 1, RECORD_ROOM};
+    static const uint64_t lengths[] = {0, 6, 7, 8, 903, 904, EMUPARASOL_MOST_RECORD - 3, EMUPARASOL_MOST_RECORD - 2, EMUPARASOL_MOST_RECORD - 1, 65535};
+    uint32_t large = one_in(2) ? 1000 : EMUPARASOL_MOST_RECORD + 100;
+    uint64_t said = one_in(2) ? lengths[below(10)] : below(large), taken, room = one_in(3) ? rooms[below(7)] : EMUPARASOL_CARRY_BYTES;
+    uint64_t counts[] = {0, 1, 2, 3, said, said + 1, said + 2, said + 3, below(large), ~(uint64_t)below(3), (uint64_t)any() << 32 | any()};
     uint64_t count = counts[below(11)];
     for (uint64_t i = 0; i < sizeof odd; i++)
-        odd[i] = (uint8_t)any();
+        odd[i] = (uint8_t)(i < 64 ? any() : said * i + count);
     odd[0] = (uint8_t)(said >> 8);
     odd[1] = (uint8_t)said;
     feed(bytes, length, odd, room, &count, part, &taken);
@@ -413,6 +443,8 @@ static void try_record(void) {
     for (int i = 0; i < 5; i++) {
         uint64_t enough = i < 3 ? lists.points : lists.scans;
         room[i] = one_in(12) && enough > 0 ? enough - 1 : enough + below(3);
+        if (one_in(30))
+            room[i] = i < 3 ? FEW_POINTS : FEW_SCANS;
     }
     place(&record_area, record, size);
     doing = "check";
@@ -434,6 +466,7 @@ static void try_record(void) {
                                      (uint64_t *)(void *)lent(&payloads_area), room[2], (uint32_t *)(void *)lent(&lows_area), room[3],
                                      (uint32_t *)(void *)lent(&highs_area), room[4], first, second, third);
     answered(answer, plain_read(record, size, kinds, room[0], keys, room[1], payloads, room[2], lows, room[3], highs, room[4], &snapshot, &points, &scans));
+    wide_read += answer == EMUPARASOL_COMMITTED && record[2] == 2;
     told(0, &snapshot, "the snapshots differ");
     told(1, &points, "the numbers of points differ");
     told(2, &scans, "the numbers of scans differ");
@@ -453,14 +486,21 @@ static void try_record(void) {
     if (one_in(6)) {
         switch (below(6)) {
         case 0: many[below(5)] += 1; break;
-        case 1: lists.kinds[below(LIST)] = (uint8_t)below(5); break;
+        case 1: lists.kinds[below((uint32_t)lists.points + 1)] = (uint8_t)below(5); break;
         case 2: lists.keys[below(8)] = key(); break;
         case 3: lists.payloads[below(8)] = below(2); break;
         case 4: lists.lows[below(3)] = key(); break;
-        default: many[0] = many[1] = many[2] = below(LIST);
+        default:
+            many[0] = many[1] = many[2] = one_in(2) ? below(LIST) : EMUPARASOL_MOST_POINTS + below(3);
+            rising(lists.keys, LIST);
+            if (one_in(2)) {
+                many[3] = many[4] = EMUPARASOL_MOST_SCANS - 1 + below(4);
+                rising(lists.lows, PAIRS);
+                memcpy(lists.highs, lists.lows, sizeof lists.highs);
+            }
         }
     }
-    uint64_t output_room = one_in(6) ? below((uint32_t)size + 1) : size + below(4);
+    uint64_t output_room = one_in(6) ? below((uint32_t)size + 1) : one_in(6) ? RECORD_ROOM - below(2) : size + below(4);
     memset(zero, 0x3C, sizeof zero);
     place(&kinds_area, lists.kinds, many[0]);
     place(&keys_area, lists.keys, 4 * many[1]);
@@ -486,7 +526,8 @@ static void expected(uint8_t answer, uint8_t right) {
     answered(answer, right);
 }
 static void try_nothing(void) {
-    uint8_t h = 9, empty[EMUPARASOL_CARRY_BYTES] = {0};
+    static uint8_t empty[EMUPARASOL_CARRY_BYTES];
+    uint8_t h = 9;
     uint64_t a = 1, b = 1, c = 1;
     uint32_t p = 1, q = 1, r = 1, s = 1, t = 1;
     doing = "nothing lent";
@@ -518,7 +559,7 @@ static void try_nothing(void) {
 /* A pool from its creation through some records, with everything else tried along the way. */
 static void episode(void) {
     static uint8_t copy[POOL_ROOM];
-    uint32_t n = one_in(200) ? 1 + below(MOST_N) : 1 + below(one_in(3) ? 60 : 12), z = one_in(3) ? 1 + below(4096) : 1 + below(5);
+    uint32_t n = one_in(100) ? 1 + below(MOST_N) : 1 + below(one_in(3) ? 60 : 12), z = one_in(3) ? 1 + below(4096) : 1 + below(5);
     keys_named = 1 + below(2 * n + 2);
     if (one_in(8)) {
         uint32_t odd[] = {0, n, n + 1, 65537, any()};
@@ -606,5 +647,10 @@ int main(int argc, char **argv) {
     printf("explained: a point in conflict %lu, a scan %lu, too old %lu, no room %lu\n", points_blamed, scans_blamed, lags_told, keys_told);
     if (points_blamed == 0 || scans_blamed == 0 || lags_told == 0 || keys_told == 0)
         fail("a reason was not told");
+    printf("version 2: committed %lu, conflict %lu, no room %lu, malformed %lu; begun in the carry %lu, read %lu\n", wide_melded[EMUPARASOL_COMMITTED],
+           wide_melded[EMUPARASOL_CONFLICT], wide_melded[EMUPARASOL_NO_ROOM], wide_melded[EMUPARASOL_MALFORMED], wide_fed, wide_read);
+    if (wide_melded[EMUPARASOL_COMMITTED] == 0 || wide_melded[EMUPARASOL_CONFLICT] == 0 || wide_melded[EMUPARASOL_NO_ROOM] == 0 ||
+        wide_melded[EMUPARASOL_MALFORMED] == 0 || wide_fed == 0 || wide_read == 0)
+        fail("something of version 2 did not happen");
     return 0;
 }

@@ -27,12 +27,18 @@ impl Set {
         let mut set = Set {
             whole: numbered(&mut next, ideas::first()),
             in_parts: numbered(&mut next, ideas::parts::first()),
-            reasons: numbered(&mut next, ideas::reason::all()),
+            reasons: numbered(&mut next, ideas::reason::first()),
         };
         let endings = numbered(&mut next, ideas::log::endings());
         set.whole.extend(endings);
         let endings = numbered(&mut next, ideas::parts::torn_or_impossible());
         set.in_parts.extend(endings);
+        let larger = numbered(&mut next, ideas::larger::all());
+        set.whole.extend(larger);
+        let larger = numbered(&mut next, ideas::parts::larger());
+        set.in_parts.extend(larger);
+        let larger = numbered(&mut next, ideas::reason::larger());
+        set.reasons.extend(larger);
         set
     }
 }

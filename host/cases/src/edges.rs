@@ -175,34 +175,73 @@ fn most_looks() -> Case {
     )
 }
 
-/// The eleven rows, then length 904.
+/// The eleven rows, then length 904, which was impossible before there was version 2.
 fn document_and_a_length() -> Case {
     let input = [table::input(), vec![3, 0x88, 1]].concat();
     case(
         "document-impossible".to_string(),
-        "The eleven rows before an impossible length.",
+        "The eleven rows before a torn record.",
         input,
     )
 }
 
-/// Lengths at their edges, behind a record: with nothing behind them, with one byte, one
-/// too few, and all of them where that is short enough for the gate. And single bytes.
-fn lengths() -> Vec<Case> {
+/// A record, and these bytes behind it.
+fn ended(name: String, end: &[u8]) -> Case {
     let first = record(0, &[Point::put(10, 100)]).to_bytes();
-    let ended = |name: String, end: &[u8]| {
-        let input = join(3, 4, &[&first[..], end].concat());
-        case(name, "A torn log and an impossible length.", input)
-    };
-    let byte = |byte: u8| ended(format!("last-byte-{byte}"), &[byte]);
-    let mut cases: Vec<Case> = [0, 3, 4, 255].map(byte).to_vec();
+    let input = join(3, 4, &[&first[..], end].concat());
+    case(name, "A torn log and an impossible length.", input)
+}
+
+/// A single byte behind a record.
+fn last_byte(byte: u8) -> Case {
+    ended(format!("last-byte-{byte}"), &[byte])
+}
+
+/// A length behind a record: with nothing behind it, with one byte, one too few, and all
+/// of them, where that is no more than so many bytes.
+fn length_and_some(length: usize, most: usize) -> Vec<Case> {
+    let whole = with_length(&vec![1; length]);
+    let mut ends = vec![2, 3, whole.len() - 1, whole.len()];
+    ends.retain(|&end| 2 <= end && end <= whole.len() && end < most);
+    ends.sort_unstable();
+    ends.dedup();
+    let there = |end: usize| format!("length-{length}-and-{}", end - 2);
+    let case = |end: usize| ended(there(end), &whole[..end]);
+    ends.into_iter().map(case).collect()
+}
+
+/// Lengths at their edges, as they were before there was version 2. And single bytes.
+fn lengths() -> Vec<Case> {
+    let mut cases: Vec<Case> = [0, 3, 4, 255].map(last_byte).to_vec();
     for length in [0, 1, 5, 6, 7, 8, 902, 903, 904, 905, 1_024, 1_792, 65_535] {
-        let whole = with_length(&vec![1; length]);
-        let mut ends = vec![2, 3, whole.len() - 1, whole.len()];
-        ends.retain(|&end| 2 <= end && end <= whole.len() && end < 2_000);
-        ends.sort_unstable();
-        ends.dedup();
-        let there = |end: usize| format!("length-{length}-and-{}", end - 2);
-        cases.extend(ends.into_iter().map(|end| ended(there(end), &whole[..end])));
+        cases.extend(length_and_some(length, 2_000));
+    }
+    cases
+}
+
+/// Those that came with version 2: the lengths at its edge, single bytes beside the first
+/// of that length, each bit flipped in front of a record, and one cut within its counts.
+pub fn larger() -> Vec<Case> {
+    let mut cases: Vec<Case> = [0x36, 0x37].map(last_byte).to_vec();
+    for length in [13_832, 13_833, 13_834, 13_835] {
+        cases.extend(length_and_some(length, 20_000).into_iter().take(3));
+    }
+    let reads: Vec<Point> = (1..=65).map(Point::read).collect();
+    let whole = record(0, &reads).to_bytes();
+    let flipped = |bit: usize| {
+        let mut bytes = whole.clone();
+        bytes[bit / 8] ^= 128 >> (bit % 8);
+        bytes
+    };
+    let bodies: Vec<u8> = (16..11 * 8).flat_map(flipped).collect();
+    let input = join(3, 4_096, &bodies);
+    cases.push(case(
+        "flips-version-2".to_string(),
+        "A bit other than written.",
+        input,
+    ));
+    for end in [2, 3, 7, 8, 9, 10, 11, 12, whole.len() - 1] {
+        cases.push(ended(format!("version-2-cut-at-{end}"), &whole[..end]));
     }
     cases
 }

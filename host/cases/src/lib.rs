@@ -30,5 +30,12 @@ pub struct InParts {
 
 /// Every case of the gate, in a fixed order; what is new comes last.
 pub fn all() -> Vec<Case> {
-    [ideas::first(), edges::all(), ideas::log::endings()].concat()
+    [
+        ideas::first(),
+        edges::all(),
+        ideas::log::endings(),
+        ideas::larger::all(),
+        edges::larger(),
+    ]
+    .concat()
 }

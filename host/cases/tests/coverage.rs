@@ -58,25 +58,22 @@ fn the_conformance_set_in_parts_catches_every_mistake_that_lines_show() {
 
 /// The cases of torn logs and impossible lengths, and the mistake that each is made for.
 const ENDINGS: &[(&str, Mistake)] = &[
-    ("log-length-904-past-the-end", Mistake::ImpossibleShortTorn),
+    ("log-length-904-past-the-end", Mistake::LengthOfBefore),
     ("log-length-6-short", Mistake::LengthBelowTorn),
     ("log-length-6-alone", Mistake::ImpossibleAloneTorn),
     ("log-length-0-alone", Mistake::ZeroIsEnd),
     ("log-length-65535", Mistake::ErasedIsEnd),
     ("log-length-903-alone", Mistake::LengthAloneImpossible),
     ("log-three-bytes-left", Mistake::TornRecordImpossible),
-    ("log-three-bytes-left-impossible", Mistake::LengthAboveTorn),
+    ("log-three-bytes-left-impossible", Mistake::LengthOfBefore),
     ("log-one-byte-left-ff", Mistake::LastByteJudged),
-    ("log-impossible-first", Mistake::ImpossibleTorn),
+    ("log-impossible-first", Mistake::LengthOfBefore),
     ("log-impossible-behind-refusals", Mistake::MalformedTorn),
 ];
 
 /// The same in parts.
 const ENDINGS_IN_PARTS: &[(&str, FeedMistake)] = &[
-    (
-        "parts-impossible-past-the-end",
-        FeedMistake::ImpossibleShortTorn,
-    ),
+    ("parts-impossible-past-the-end", FeedMistake::LengthOfBefore),
     ("parts-impossible-last", FeedMistake::ImpossibleLate),
     ("parts-erased", FeedMistake::FirstByteJudged),
     ("parts-one-byte-left-ff", FeedMistake::OneByteImpossible),
@@ -84,6 +81,142 @@ const ENDINGS_IN_PARTS: &[(&str, FeedMistake)] = &[
     ("parts-three-bytes-left", FeedMistake::TornIsEnd),
     ("parts-torn-903", FeedMistake::TornForgotten),
 ];
+
+/// The cases of version 2, and the mistakes that each is made for.
+const LARGER: &[(&str, &[Mistake])] = &[
+    (
+        "version-2-unknown-before",
+        &[Mistake::VersionTwoRefused, Mistake::RuleOfBefore],
+    ),
+    (
+        "version-2-impossible-before",
+        &[Mistake::LengthOfBefore, Mistake::RuleOfBefore],
+    ),
+    ("version-2-65-points", &[Mistake::VersionTwoPointsRefused]),
+    ("version-2-9-scans", &[Mistake::VersionTwoScansRefused]),
+    ("version-2-one-is-enough", &[Mistake::VersionTwoNeedsBoth]),
+    (
+        "version-2-64-points-8-scans",
+        &[
+            Mistake::VersionTwoAlwaysTaken,
+            Mistake::VersionTwoFromFullPoints,
+            Mistake::VersionTwoFromFullScans,
+        ],
+    ),
+    ("version-2-nothing", &[Mistake::VersionTwoEmptyTaken]),
+    (
+        "version-1-255-points",
+        &[Mistake::VersionOneAlwaysTaken, Mistake::LengthOfVersionOne],
+    ),
+    ("version-3", &[Mistake::VersionThreeTaken]),
+    (
+        "version-2-counts-of-one-byte",
+        &[Mistake::CountsOfOneByte, Mistake::CountsOfTwoBytes],
+    ),
+    ("version-2-256-points", &[Mistake::CountsLittleEndian]),
+    ("version-2-last-byte-of-a-count", &[Mistake::CountsLastByte]),
+    (
+        "version-2-1024-points",
+        &[Mistake::PointsAboveTaken, Mistake::PointsFullRefused],
+    ),
+    (
+        "version-2-64-scans",
+        &[Mistake::ScansAboveTaken, Mistake::ScansFullRefused],
+    ),
+    ("version-2-counts-beyond", &[Mistake::MalformedTorn]),
+    (
+        "version-2-bytes-missing-or-left",
+        &[Mistake::BytesLeftTaken],
+    ),
+    ("version-2-longest", &[Mistake::LengthNotMost]),
+    ("version-2-keys-in-order", &[Mistake::OrderOfFirstPoints]),
+    ("version-2-scans-in-order", &[Mistake::OrderOfFirstScans]),
+    ("version-2-kinds", &[Mistake::KindsAnyTaken]),
+    (
+        "version-2-conflict-behind-64-points",
+        &[Mistake::LaterPointsLeftOut],
+    ),
+    (
+        "version-2-conflict-behind-8-scans",
+        &[Mistake::LaterScansLeftOut],
+    ),
+    (
+        "version-2-writes-behind-64-points",
+        &[Mistake::LaterWritesLost],
+    ),
+    ("version-2-room", &[Mistake::RoomForOneMore]),
+    (
+        "version-2-looks",
+        &[Mistake::LaterPointsLeftOut, Mistake::StopsNotCounted],
+    ),
+    (
+        "version-1-length-904",
+        &[Mistake::LengthOfVersionOne, Mistake::LengthOfBefore],
+    ),
+    ("log-length-13833", &[Mistake::LengthNotMost]),
+    ("log-length-13833-torn", &[Mistake::TornRecordImpossible]),
+    ("log-length-13833-alone", &[Mistake::LengthAloneImpossible]),
+    ("log-length-13834", &[Mistake::LengthAboveTaken]),
+    (
+        "log-length-13834-past-the-end",
+        &[Mistake::ImpossibleShortTorn],
+    ),
+    (
+        "log-length-13834-alone",
+        &[Mistake::ImpossibleAloneTorn, Mistake::LengthAboveTaken],
+    ),
+    ("log-length-13834-three-bytes", &[Mistake::LengthAboveTorn]),
+    ("log-length-13834-first", &[Mistake::ImpossibleTorn]),
+];
+
+/// The same in parts.
+const LARGER_IN_PARTS: &[(&str, FeedMistake)] = &[
+    ("parts-version-2", FeedMistake::PartDropped),
+    ("parts-version-2-carry-of-905", FeedMistake::CarryOfBefore),
+    ("parts-version-2-longest", FeedMistake::LengthNotMost),
+    ("parts-torn-13833", FeedMistake::TornForgotten),
+    ("parts-length-13834", FeedMistake::ImpossibleLate),
+    (
+        "parts-length-13834-past-the-end",
+        FeedMistake::LengthAboveTaken,
+    ),
+    ("parts-length-13833-alone", FeedMistake::LengthNotMost),
+];
+
+#[test]
+fn each_case_of_version_2_catches_the_mistakes_that_it_is_made_for() {
+    let cases = ideas::larger::all();
+    assert_eq!(cases.len(), LARGER.len());
+    for (case, (name, mistakes)) in cases.iter().zip(LARGER) {
+        assert_eq!(case.name, *name);
+        for &mistake in *mistakes {
+            assert!(shows(case, Some(mistake)), "{name}: {}", mistake.words());
+        }
+    }
+    let cases = ideas::parts::larger();
+    assert_eq!(cases.len(), LARGER_IN_PARTS.len());
+    for (case, (name, mistake)) in cases.iter().zip(LARGER_IN_PARTS) {
+        assert_eq!(case.case.name, *name);
+        assert!(shows_in_parts(case, Some(*mistake)), "{name}");
+    }
+}
+
+/// R54: what a card of before makes of 167 and 168, and what a card makes of them today.
+#[test]
+fn a_card_of_before_parts_at_the_first_record_of_version_2() {
+    let cases = ideas::larger::all();
+    let before = |case: &Case| lines(Some(Mistake::RuleOfBefore), &case.input);
+    assert_eq!(before(&cases[0]), "1 4 0\n2 0 0\n3 1 1\nend\n");
+    assert_eq!(
+        program::lines(&cases[0].input),
+        "1 0 0\n2 1 1\n3 0 1\nend\n"
+    );
+    assert_eq!(before(&cases[1]), "11\n");
+    assert_eq!(
+        program::lines(&cases[1].input),
+        "1 0 0\n2 1 11\n3 0 1\nend\n"
+    );
+}
 
 #[test]
 fn each_ending_catches_the_mistake_that_it_is_made_for() {
@@ -101,8 +234,8 @@ fn each_ending_catches_the_mistake_that_it_is_made_for() {
     }
 }
 
-/// The numbers of the files never change: the last ones of each kind that were there
-/// before torn logs and impossible lengths were told apart, and the first behind them.
+/// The numbers of the files never change: the first and the last ones of each kind, as they
+/// were when they came.
 #[test]
 fn numbers_do_not_change() {
     let files = cases::conformance::files();
@@ -116,6 +249,12 @@ fn numbers_do_not_change() {
         "148-reason-changes-nothing.input",
         "149-log-length-904-past-the-end.input",
         "160-parts-impossible-past-the-end.input",
+        "166-parts-torn-903.input",
+        "167-version-2-unknown-before.input",
+        "168-version-2-impossible-before.input",
+        "200-log-length-13834-first.input",
+        "201-parts-version-2.input",
+        "208-reason-point-numbers-above-255.input",
     ] {
         assert!(names.contains(name), "{name}");
     }
@@ -152,6 +291,15 @@ const MADE_FOR: &[(ReasonMistake, &str)] = &[
     (ReasonMistake::PointsOfItsKind, "reason-point-numbers"),
     (ReasonMistake::ScansFromZero, "reason-scan-numbers"),
     (ReasonMistake::ScansBehindPoints, "reason-scan-numbers"),
+    (
+        ReasonMistake::PointInAByte,
+        "reason-point-numbers-above-255",
+    ),
+    (
+        ReasonMistake::PointsUpTo64,
+        "reason-point-numbers-above-255",
+    ),
+    (ReasonMistake::ScansUpTo8, "reason-scan-numbers-above-8"),
     (ReasonMistake::OwnPosition, "reason-writers-position"),
     (ReasonMistake::LastPosition, "reason-writers-position"),
     (ReasonMistake::SnapshotTold, "reason-writers-position"),
@@ -219,7 +367,7 @@ const MADE_FOR: &[(ReasonMistake, &str)] = &[
     (ReasonMistake::ImpossibleTorn, "log-length-6-alone"),
     (
         ReasonMistake::ImpossibleShortTorn,
-        "log-length-904-past-the-end",
+        "log-length-13834-past-the-end",
     ),
     (ReasonMistake::TornImpossible, "log-three-bytes-left"),
 ];
@@ -227,7 +375,7 @@ const MADE_FOR: &[(ReasonMistake, &str)] = &[
 #[test]
 fn every_mistake_in_reasons_is_caught_by_the_case_made_for_it() {
     let cases = ideas::reason::all();
-    let endings = ideas::log::endings();
+    let endings = [ideas::log::endings(), ideas::larger::all()].concat();
     for (mistake, name) in MADE_FOR {
         let mut all = cases.iter().chain(&endings);
         let made = all.find(|case| case.name == *name);

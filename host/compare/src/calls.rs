@@ -12,7 +12,7 @@ use crate::generate;
 use crate::mistaken::feed::{FeedMistake, Feeder};
 
 /// The longest log that a call is made from.
-const LONGEST: usize = 8_000;
+const LONGEST: usize = 20_000;
 
 /// A call: what is lent, and how the pool came about.
 #[derive(Clone, Debug)]
@@ -72,7 +72,9 @@ impl Call {
             _ => rest.len(),
         };
         let part = &rest[carried..][..lent.min(rest.len() - carried)];
-        let mut carry: Vec<u8> = (0..CARRY_BYTES).map(|_| random.bits() as u8).collect();
+        let word = |_| random.bits().to_be_bytes();
+        let mut carry: Vec<u8> = (0..CARRY_BYTES.div_ceil(8)).flat_map(word).collect();
+        carry.truncate(CARRY_BYTES);
         carry[..carried].copy_from_slice(&rest[..carried]);
         let mut call = Call {
             limits,
@@ -94,10 +96,30 @@ impl Call {
 
     /// Another size of the carry, another count, or a length that cannot be.
     fn spoil(&mut self, next: usize, random: &mut Random) {
-        let length: u16 = random.pick(&[0, 1, 6, 7, 903, 904, 0x0700, u16::MAX]);
+        let length: u16 = random.pick(&[
+            0,
+            1,
+            6,
+            7,
+            903,
+            904,
+            0x0700,
+            13_833,
+            13_834,
+            0x3700,
+            u16::MAX,
+        ]);
         match random.below(5) {
             0 => {
-                let size = random.pick(&[0, 1, 2, 22, CARRY_BYTES - 1, CARRY_BYTES + 1, 2_048]);
+                let size = random.pick(&[
+                    0,
+                    2,
+                    22,
+                    905,
+                    CARRY_BYTES - 1,
+                    CARRY_BYTES + 1,
+                    CARRY_BYTES + 2_048,
+                ]);
                 self.carry.resize(size, 0xA5);
             }
             1 => self.carried = random.below(CARRY_BYTES + 2),

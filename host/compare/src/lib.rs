@@ -12,3 +12,4 @@ pub mod process;
 pub mod setting;
 pub mod shrink;
 pub mod trial;
+pub mod writes;

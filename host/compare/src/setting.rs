@@ -14,7 +14,7 @@ use crate::trial::Trial;
 /// holds them all.
 const HELD: usize = 60_000;
 
-/// The most bytes behind them: a record and more, and less than a buffer.
+/// The most bytes behind them: a record of version 1 and more, and less than a buffer.
 const TAIL: usize = 2_000;
 
 /// What is compared.

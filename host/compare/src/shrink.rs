@@ -1,6 +1,6 @@
 //! From a trial that differs to a smaller one that still does: records are
-//! dropped, then cuts between parts, then points and scans, then the last bytes of
-//! what is no record, until nothing more can go.
+//! dropped and the last one torn, then go cuts between parts, points and scans, and the
+//! last bytes of what is no record, until nothing more can go.
 
 use reference::program::split_up_to;
 use reference::record::{with_length, LEAST_LENGTH};
@@ -49,6 +49,7 @@ pub fn shrink(most: u32, trial: &Trial, differs: &mut dyn FnMut(&Trial) -> bool)
         let before = search.best.size();
         search.drop_tail();
         search.drop_records();
+        search.tear_last_record();
         search.drop_cuts();
         search.drop_points_and_scans();
         search.drop_last_bytes();
@@ -85,6 +86,22 @@ impl Search<'_> {
                 self.take(smaller);
             }
             bytes /= 2;
+        }
+    }
+
+    /// Leaves of the last record no more than its length, if nothing stands behind it.
+    fn tear_last_record(&mut self) {
+        if !self.best.tail.bytes.is_empty() {
+            return;
+        }
+        let mut smaller = self.best.clone();
+        if let Some(mut last) = smaller.records.pop() {
+            last.bytes.truncate(2);
+            last.cuts.retain(|&cut| cut <= 2);
+            last.cuts
+                .extend(smaller.tail.cuts.iter().map(|cut| cut + 2));
+            smaller.tail = last;
+            self.take(smaller);
         }
     }
 
@@ -140,24 +157,33 @@ impl Search<'_> {
         }
     }
 
-    /// Leaves out points and scans of well-formed records, one at a time.
+    /// Leaves out points and scans of well-formed records.
     fn drop_points_and_scans(&mut self) {
         for index in 0..self.best.records.len() {
-            let Ok(mut record) = Record::parse(&self.best.records[index].bytes) else {
-                continue;
-            };
-            for place in (0..record.points.len()).rev() {
-                let point = record.points.remove(place);
-                if !self.replace(index, &record) {
-                    record.points.insert(place, point);
+            self.drop_from_list(index, |record| &mut record.points);
+            self.drop_from_list(index, |record| &mut record.scans);
+        }
+    }
+
+    /// Leaves out runs of a list of the record at this place, long runs first, from the
+    /// end to the front.
+    fn drop_from_list<T>(&mut self, index: usize, list: fn(&mut Record) -> &mut Vec<T>) {
+        let Ok(mut record) = Record::parse(&self.best.records[index].bytes) else {
+            return;
+        };
+        let mut run = list(&mut record).len();
+        while run > 0 {
+            let mut end = list(&mut record).len();
+            while end > 0 {
+                let start = end.saturating_sub(run);
+                let mut smaller = record.clone();
+                list(&mut smaller).drain(start..end);
+                if self.replace(index, &smaller) {
+                    record = smaller;
                 }
+                end = start;
             }
-            for place in (0..record.scans.len()).rev() {
-                let scan = record.scans.remove(place);
-                if !self.replace(index, &record) {
-                    record.scans.insert(place, scan);
-                }
-            }
+            run /= 2;
         }
     }
 

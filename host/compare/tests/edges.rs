@@ -11,11 +11,109 @@ use reference::{Answer, Limits, Record, State};
 /// How often each edge was met.
 type Tally = BTreeMap<&'static str, usize>;
 
+/// Counts the edges of R53 that these bytes meet, by what their counts say.
+fn version_edges(part: &[u8], tally: &mut Tally) {
+    let mut add = |name, met: bool| *tally.entry(name).or_default() += usize::from(met);
+    let number = |at: usize| {
+        part.get(at..at + 2)
+            .map(|two| usize::from(two[0]) * 256 + usize::from(two[1]))
+    };
+    let (version, formed) = (part[2], Record::parse(part).is_ok());
+    let one = (usize::from(part[7]), usize::from(part[8]));
+    let two = (number(7).unwrap_or(0), number(9).unwrap_or(0));
+    let whole = |front: usize, (points, scans): (usize, usize)| {
+        let (least, most) = (points * 5 + scans * 8, points * 13 + scans * 8);
+        (front + least..=front + most).contains(&part.len())
+    };
+    for (name, points, scans) in [
+        ("64 points in version 1", Some(64), None),
+        ("8 scans in version 1", None, Some(8)),
+        ("65 points in version 1", Some(65), None),
+        ("9 scans in version 1", None, Some(9)),
+    ] {
+        let met =
+            points.is_none_or(|points| one.0 == points) && scans.is_none_or(|scans| one.1 == scans);
+        add(name, version == 1 && met && whole(9, one));
+    }
+    let counts =
+        |points: usize, scans: usize| version == 2 && two == (points, scans) && whole(11, two);
+    add("64 points and 8 scans in version 2", counts(64, 8));
+    add("nothing in version 2", counts(0, 0));
+    for (name, wanted) in [
+        ("65 points in version 2", 65),
+        ("256 points in version 2", 256),
+        ("1,023 points in version 2", 1_023),
+        ("1,024 points in version 2", 1_024),
+    ] {
+        add(name, formed && version == 2 && two.0 == wanted);
+    }
+    add(
+        "1,025 points in version 2",
+        version == 2 && two.0 == 1_025 && whole(11, two),
+    );
+    for (name, wanted) in [
+        ("9 scans in version 2", 9),
+        ("63 scans in version 2", 63),
+        ("64 scans in version 2", 64),
+    ] {
+        add(name, formed && version == 2 && two.1 == wanted);
+    }
+    add(
+        "65 scans in version 2",
+        version == 2 && two.1 == 65 && whole(11, two),
+    );
+    add(
+        "more points alone in version 2",
+        formed && version == 2 && two.1 <= 8,
+    );
+    add(
+        "more scans alone in version 2",
+        formed && version == 2 && two.0 <= 64,
+    );
+    add(
+        "more of both in version 2",
+        formed && version == 2 && two.0 > 64 && two.1 > 8,
+    );
+    add(
+        "version 3 with more points than version 1",
+        version == 3 && two.0 > 64 && whole(11, two),
+    );
+    add("version 0", version == 0);
+    let swapped = (usize::from(part[8]) * 256 + usize::from(part[7]), two.1);
+    add(
+        "a count with its bytes exchanged",
+        version == 2 && two.0 > 1_024 && whole(11, swapped),
+    );
+    add(
+        "version 2 with counts of one byte",
+        version == 2 && one != (0, 0) && whole(9, one),
+    );
+    add(
+        "version 1 with counts of two bytes",
+        version == 1 && two != (0, 0) && whole(11, two),
+    );
+    add(
+        "version 1 with a length above 903",
+        version == 1 && part.len() > 905,
+    );
+    add(
+        "version 1 with a length of 904",
+        version == 1 && part.len() == 906,
+    );
+    add(
+        "version 2 with a length up to 903",
+        formed && version == 2 && part.len() <= 905,
+    );
+    add(
+        "version 2 with a length above 903",
+        formed && version == 2 && part.len() > 905,
+    );
+}
+
 /// Counts the edges that this record meets at this state.
 fn record_edges(state: &State, part: &[u8], tally: &mut Tally) {
+    version_edges(part, tally);
     let mut add = |name, met: bool| *tally.entry(name).or_default() += usize::from(met);
-    add("65 points", part[7] == 65);
-    add("9 scans", part[8] == 9);
     let Ok(record) = Record::parse(part) else {
         return;
     };
@@ -29,8 +127,6 @@ fn record_edges(state: &State, part: &[u8], tally: &mut Tally) {
         "nothing",
         record.points.is_empty() && record.scans.is_empty(),
     );
-    add("64 points", record.points.len() == 64);
-    add("8 scans", record.scans.len() == 8);
     add("key 0", record.points.iter().any(|point| point.key == 0));
     let highest = |point: &reference::Point| point.key == u32::MAX;
     add("key 4,294,967,295", record.points.iter().any(highest));
@@ -75,19 +171,22 @@ fn room_edges(before: &State, after: &State, answer: Answer, tally: &mut Tally) 
 fn ending_edges(records: &[&[u8]], rest: &[u8], tally: &mut Tally) {
     let mut add = |name, met: bool| *tally.entry(name).or_default() += usize::from(met);
     add("length 7, all there", records.iter().any(|r| r.len() == 9));
-    add(
-        "length 903, all there",
-        records.iter().any(|r| r.len() == 905),
-    );
+    for (name, wanted) in [
+        ("length 903, all there", 903),
+        ("length 904, all there", 904),
+        ("length 13,833, all there", 13_833),
+    ] {
+        add(name, records.iter().any(|r| r.len() == wanted + 2));
+    }
     add("one byte left", rest.len() == 1);
     add(
         "one byte left that no length begins with",
-        rest.len() == 1 && rest[0] > 3,
+        rest.len() == 1 && rest[0] > 0x36,
     );
     let length = rest.first_chunk::<2>().map(|two| u16::from_be_bytes(*two));
     let behind = rest.len().saturating_sub(2);
-    let torn = length.is_some_and(|length| (7..=903).contains(&length));
-    let impossible = length.is_some_and(|length| !(7..=903).contains(&length));
+    let torn = length.is_some_and(|length| (7..=13_833).contains(&length));
+    let impossible = length.is_some_and(|length| !(7..=13_833).contains(&length));
     add("two bytes left, torn", torn && behind == 0);
     add("two bytes left, impossible", impossible && behind == 0);
     add("three bytes left, torn", torn && behind == 1);
@@ -95,7 +194,11 @@ fn ending_edges(records: &[&[u8]], rest: &[u8], tally: &mut Tally) {
     for (wanted, all, few) in [
         (0, "length 0, all there", None),
         (6, "length 6, all there", Some("length 6, too few")),
-        (904, "length 904, all there", Some("length 904, too few")),
+        (
+            13_834,
+            "length 13,834, all there",
+            Some("length 13,834, too few"),
+        ),
         (
             u16::MAX,
             "length 65,535, all there",
@@ -111,9 +214,11 @@ fn ending_edges(records: &[&[u8]], rest: &[u8], tally: &mut Tally) {
     }
     add("length 7, too few", length == Some(7));
     add("length 903, too few", length == Some(903));
+    add("length 904, too few", length == Some(904));
+    add("length 13,833, too few", length == Some(13_833));
     add(
         "another impossible length",
-        impossible && !matches!(length, Some(0 | 6 | 904 | u16::MAX)),
+        impossible && !matches!(length, Some(0 | 6 | 13_834 | u16::MAX)),
     );
     add(
         "an impossible length behind records",
@@ -196,12 +301,19 @@ fn cut_edges(log: &[u8], sizes: &[usize], tally: &mut Tally) {
         let longest = record.len() == 905;
         add("a 905-byte record in parts", longest && inside > 0);
         add("a 905-byte record in one part", longest && inside == 0);
+        let longest = record.len() == 13_835;
+        add("a 13,835-byte record in parts", longest && inside > 0);
+        add("a 13,835-byte record in one part", longest && inside == 0);
+        let two = record[2] == 2 && Record::parse(record).is_ok();
+        add("a record of version 2 in parts", two && inside > 0);
+        let within = (start + 8..start + 11).any(|place| cut_at(place) > 0);
+        add("a record of version 2 cut within its counts", two && within);
         let flawed = Record::parse(record).is_err();
         add("a malformed record in parts", flawed && inside > 0);
         start = end;
     }
     let length = tail.first_chunk::<2>().map(|two| u16::from_be_bytes(*two));
-    let impossible = length.is_some_and(|length| !(7..=903).contains(&length));
+    let impossible = length.is_some_and(|length| !(7..=13_833).contains(&length));
     add("an impossible length", impossible);
     let halved = impossible && cut_at(start + 1) > 0;
     add("an impossible length in two parts", halved);
@@ -243,9 +355,9 @@ fn cut_edges(log: &[u8], sizes: &[usize], tally: &mut Tally) {
 
 /// The ends of R14, in few seeds already.
 #[test]
-fn every_ending_is_met_in_parts_by_150_seeds() {
+fn every_ending_is_met_in_parts_by_200_seeds() {
     let mut tally = Tally::new();
-    for seed in 0..150 {
+    for seed in 0..200 {
         let input = generate::paged_input(seed);
         if let Ok((_, log)) = split(&input) {
             let (records, rest) = parts(log);

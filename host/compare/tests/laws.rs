@@ -1,9 +1,10 @@
 //! What docs/RULES.md says of every log, seen on logs from seeds.
 
 use compare::generate;
+use compare::mistaken::{self, Mistake};
 use reference::log::parts;
 use reference::pages::{calls, cut};
-use reference::program::{join, run, split};
+use reference::program::{join, lines, run, split};
 use reference::random::Random;
 use reference::refresh::{in_force, refresh};
 use reference::{Answer, Ending, Fed, Limits, Point, Record, Said, Scan, State, Verdict};
@@ -68,14 +69,14 @@ fn looks_bound(record: &Record) -> u32 {
 }
 
 #[test]
-fn the_bound_of_the_fullest_record_is_5185() {
-    let scan = Scan { low: 0, high: 0 };
-    let fullest = Record {
+fn the_bounds_of_the_fullest_records_are_5185_and_73793() {
+    let fullest = |points, scans| Record {
         snapshot: 0,
-        points: vec![Point::read(0); 64],
-        scans: vec![scan; 8],
+        points: vec![Point::read(0); points],
+        scans: vec![Scan { low: 0, high: 0 }; scans],
     };
-    assert_eq!(looks_bound(&fullest), 5_185);
+    assert_eq!(looks_bound(&fullest(64, 8)), 5_185);
+    assert_eq!(looks_bound(&fullest(1_024, 64)), 73_793);
 }
 
 #[test]
@@ -127,13 +128,14 @@ fn random_state(mask: u32, random: &mut Random) -> State {
 fn missing_record(state: &State, mask: u32, random: &mut Random) -> Record {
     let kept: Vec<u32> = state.kept().keys().copied().collect();
     let misses = |key: &u32| !state.kept().contains_key(key);
-    let mut keys: Vec<u32> = (0..200)
+    let (points, most_scans) = random.pick(&[(64, 8), (1_024, 64)]);
+    let mut keys: Vec<u32> = (0..3 * points)
         .map(|_| (random.pick(&kept) ^ (1 << random.below(32))) & mask)
         .filter(misses)
         .collect();
     keys.sort_unstable();
     keys.dedup();
-    keys.truncate(64);
+    keys.truncate(points);
     let gaps = kept.windows(2).filter(|two| two[1] - two[0] > 2);
     let mut scans: Vec<Scan> = gaps
         .map(|two| Scan {
@@ -141,7 +143,7 @@ fn missing_record(state: &State, mask: u32, random: &mut Random) -> Record {
             high: two[1] - 1,
         })
         .collect();
-    scans.truncate(random.below(9));
+    scans.truncate(random.below(most_scans + 1));
     let points = keys.into_iter().map(Point::read).collect();
     Record {
         snapshot: 0,
@@ -174,10 +176,15 @@ fn chain(original: &[u8], stops: &[&State]) -> Result<Vec<u8>, Answer> {
 fn refresh_chains_keep_the_verdict_in_no_more_looks() {
     let mut random = Random::new(6);
     let mut outcomes = [0; 4];
-    for seed in 0..800 {
+    let mut of_version_2 = 0;
+    for seed in 0..4_000 {
         let Some((limits, parts)) = short_log(seed) else {
             continue;
         };
+        // Later on only logs with records of version 2.
+        if seed >= 800 && parts.iter().all(|part| part[2] != 2) {
+            continue;
+        }
         let states = states(limits, &parts);
         for (p, original) in parts.iter().enumerate() {
             let mut places: Vec<usize> = (0..random.below(4))
@@ -195,6 +202,7 @@ fn refresh_chains_keep_the_verdict_in_no_more_looks() {
                     assert!(refreshed.looks <= verdict.looks, "seed {seed}");
                     assert_eq!(fresh, plain, "seed {seed}");
                     outcomes[1] += usize::from(&part != original);
+                    of_version_2 += usize::from(&part != original && part[2] == 2);
                 }
                 Err(_) if verdict.answer == Answer::TooOld => outcomes[2] += 1,
                 Err(answer) => {
@@ -205,6 +213,48 @@ fn refresh_chains_keep_the_verdict_in_no_more_looks() {
         }
     }
     assert!(outcomes.iter().all(|&count| count > 100), "{outcomes:?}");
+    assert!(of_version_2 > 10, "{of_version_2}");
+}
+
+/// R54: a log that led to "end" by the rule of before, with no 2 for a version, has the
+/// verdicts and looks of then; and a log that has one parts from it there.
+#[test]
+fn a_log_of_before_has_its_verdicts() {
+    let (mut same, mut parted, mut stopped) = (0, 0, 0);
+    for seed in 0..2_000 {
+        let input = generate::input(seed);
+        let Ok((_, log)) = split(&input) else {
+            continue;
+        };
+        let (records, _) = parts(log);
+        let before = mistaken::lines(Some(Mistake::RuleOfBefore), &input);
+        let today = lines(&input);
+        let two = records.iter().position(|part| part[2] == 2);
+        let longer = records.iter().position(|part| part.len() > 905);
+        if before.ends_with("end\n") && two.is_none() {
+            assert_eq!(before, today, "seed {seed}");
+            same += 1;
+        }
+        // The lines before the first record of version 2, or with a longer length, are those
+        // of today; there the card of before answers 4, or says 11 and stays.
+        let first = two.into_iter().chain(longer).min();
+        if let Some(place) = first {
+            let (then, now): (Vec<&str>, Vec<&str>) =
+                (before.lines().collect(), today.lines().collect());
+            assert_eq!(then[..place], now[..place], "seed {seed}");
+            if records[place].len() > 905 {
+                assert_eq!(then[place..], ["11"], "seed {seed}");
+                stopped += 1;
+            } else {
+                assert!(then[place].ends_with(" 4 0"), "seed {seed}");
+                parted += usize::from(then[place] != now[place]);
+            }
+        }
+    }
+    assert!(
+        same > 1_000 && parted > 20 && stopped > 20,
+        "{same} {parted} {stopped}"
+    );
 }
 
 #[test]

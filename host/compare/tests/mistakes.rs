@@ -1,15 +1,18 @@
 //! Logs from seeds catch every mistake, and small logs show it.
 
-use compare::calls::Call;
+use compare::calls::{Call, Outcome};
 use compare::check::difference;
 use compare::generate;
 use compare::mistaken::feed::{self, FeedMistake};
 use compare::mistaken::reason::{self, ReasonMistake};
+use compare::mistaken::writer::WriteMistake;
 use compare::mistaken::{lines, Mistake};
 use compare::setting::Setting;
 use compare::shrink::shrink;
 use compare::trial::Trial;
+use compare::writes::{Refreshing, Writing, Written};
 use reference::program::MOST_N;
+use reference::Answer;
 
 /// The page form.
 const PARTS: Setting = Setting {
@@ -47,6 +50,16 @@ fn without_a_mistake_nothing_differs() {
     }
 }
 
+/// Those that show only in a record of 256 points or more, or in one that is malformed behind
+/// its 64th point or 8th scan, from which points cannot go.
+const LARGE: &[Mistake] = &[
+    Mistake::CountsLastByte,
+    Mistake::OrderOfFirstPoints,
+    Mistake::OrderOfFirstScans,
+    Mistake::PointsAboveTaken,
+    Mistake::PointsFullRefused,
+];
+
 #[test]
 fn every_mistake_is_caught_and_cut_down() {
     let trials: Vec<Trial> = (0..2_000)
@@ -59,7 +72,11 @@ fn every_mistake_is_caught_and_cut_down() {
         let place = place.unwrap_or_else(|| panic!("not caught: {}", mistake.words()));
         let small = shrink(MOST_N, &trials[place], &mut differs).input.len();
         println!("{mistake:?}: seed {place}, cut down to {small} bytes");
-        assert!(small < 1_000, "{mistake:?}: {small} bytes");
+        let most = match LARGE.contains(&mistake) {
+            true => 14_000,
+            false => 1_000,
+        };
+        assert!(small < most, "{mistake:?}: {small} bytes");
     }
 }
 
@@ -77,7 +94,7 @@ fn fed_in_parts_without_a_mistake_nothing_differs() {
 /// show are not caught by any: the list of them says no more than is true.
 #[test]
 fn every_mistake_of_feeding_is_caught_by_lines_and_cut_down() {
-    let trials: Vec<Trial> = (0..150).flat_map(generate::in_parts).collect();
+    let trials: Vec<Trial> = (0..200).flat_map(generate::in_parts).collect();
     for &mistake in FeedMistake::ALL {
         let program = misfed(Some(mistake));
         let mut differs = |trial: &Trial| difference(PARTS, &program, trial).is_some();
@@ -90,23 +107,31 @@ fn every_mistake_of_feeding_is_caught_by_lines_and_cut_down() {
         let small = shrink(MOST_N, found, &mut differs);
         let (bytes, sizes) = (small.input.len(), small.sizes.unwrap_or_default());
         println!("{mistake:?}: cut down to {bytes} bytes, sizes {sizes:?}");
-        assert!(bytes < 100, "{mistake:?}: {bytes} bytes");
+        let most = match mistake {
+            // It takes a record that is longer.
+            FeedMistake::CarryOfBefore => 1_000,
+            _ => 100,
+        };
+        assert!(bytes < most, "{mistake:?}: {bytes} bytes");
         assert!(sizes.len() < 4, "{mistake:?}: sizes {sizes:?}");
     }
 }
 
 #[test]
 fn every_mistake_of_feeding_is_caught_by_single_calls() {
-    let calls: Vec<Call> = (0..3_000).map(Call::of).collect();
-    for (seed, call) in calls.iter().enumerate() {
-        assert_eq!(call.mistaken(None), call.outcome(), "seed {seed}");
+    let calls: Vec<(Call, Outcome)> = (0..3_000)
+        .map(Call::of)
+        .map(|call| (call.clone(), call.outcome()))
+        .collect();
+    for (seed, (call, outcome)) in calls.iter().enumerate() {
+        assert_eq!(call.mistaken(None), *outcome, "seed {seed}");
     }
     for &mistake in FeedMistake::ALL {
         // It goes wrong only from one call to the next.
         if mistake == FeedMistake::MoreHasLooks {
             continue;
         }
-        let differs = |call: &&Call| call.mistaken(Some(mistake)) != call.outcome();
+        let differs = |(call, outcome): &&(Call, Outcome)| call.mistaken(Some(mistake)) != *outcome;
         let count = calls.iter().filter(differs).count();
         println!("{mistake:?}: {count} of {} calls", calls.len());
         assert!(count > 2, "not caught: {}", mistake.words());
@@ -137,6 +162,71 @@ fn every_mistake_in_reasons_is_caught_and_cut_down() {
             "{mistake:?}: {} logs, cut down to {small} bytes",
             found.len()
         );
-        assert!(small < 1_000, "{mistake:?}: {small} bytes");
+        let most = match mistake {
+            // It takes 256 points.
+            ReasonMistake::PointInAByte => 3_000,
+            _ => 1_000,
+        };
+        assert!(small < most, "{mistake:?}: {small} bytes");
+    }
+}
+
+/// How often each answer has to occur among so many calls.
+fn frequent(answers: &[Answer], found: &[Answer]) {
+    for answer in answers {
+        let count = found.iter().filter(|other| *other == answer).count();
+        assert!(count > 30, "{answer:?}: {count} times");
+    }
+}
+
+/// The writer and refresh, by single calls: lines do not show them.
+#[test]
+fn every_mistake_in_writing_is_caught_by_single_calls() {
+    let writes: Vec<Writing> = (0..2_000).map(Writing::of).collect();
+    let written: Vec<Written> = writes.iter().map(Writing::outcome).collect();
+    for (seed, (call, outcome)) in writes.iter().zip(&written).enumerate() {
+        assert_eq!(call.mistaken(None), *outcome, "seed {seed}");
+    }
+    let answers: Vec<Answer> = written.iter().map(|written| written.0).collect();
+    frequent(
+        &[Answer::Committed, Answer::Malformed, Answer::OutputShort],
+        &answers,
+    );
+    let mistakes = WriteMistake::ALL.iter().copied();
+    for mistake in mistakes.filter(|mistake| !mistake.in_refresh()) {
+        let calls = writes.iter().zip(&written);
+        let differ = calls.filter(|(call, outcome)| call.mistaken(Some(mistake)) != **outcome);
+        let count = differ.count();
+        println!("{mistake:?}: {count} of {} calls", writes.len());
+        assert!(count > 2, "not caught: {}", mistake.words());
+    }
+}
+
+#[test]
+fn every_mistake_in_refreshing_is_caught_by_single_calls() {
+    let calls: Vec<Refreshing> = (0..3_000).map(Refreshing::of).collect();
+    let outcomes: Vec<(Answer, Vec<u8>)> = calls.iter().map(Refreshing::outcome).collect();
+    for (seed, (call, outcome)) in calls.iter().zip(&outcomes).enumerate() {
+        assert_eq!(call.mistaken(None), *outcome, "seed {seed}");
+    }
+    let answers: Vec<Answer> = outcomes.iter().map(|outcome| outcome.0).collect();
+    frequent(
+        &[
+            Answer::Committed,
+            Answer::Conflict,
+            Answer::TooOld,
+            Answer::Malformed,
+            Answer::Ahead,
+            Answer::OutputShort,
+        ],
+        &answers,
+    );
+    let mistakes = WriteMistake::ALL.iter().copied();
+    for mistake in mistakes.filter(|mistake| mistake.in_refresh()) {
+        let both = calls.iter().zip(&outcomes);
+        let differ = both.filter(|(call, outcome)| call.mistaken(Some(mistake)) != **outcome);
+        let count = differ.count();
+        println!("{mistake:?}: {count} of {} calls", calls.len());
+        assert!(count > 2, "not caught: {}", mistake.words());
     }
 }

@@ -69,6 +69,9 @@ fn conflict_edges(
             add("the first point", number == 1);
             add("a later point", number > 1);
             add("point 64", number == 64);
+            add("a point behind the 64th", number > 64);
+            add("a point behind the 255th", number > 255);
+            add("point 1,024", number == 1_024);
             let kind = record.points[number - 1].kind;
             add("a read in conflict", kind == Kind::Read);
             add("a put in conflict", matches!(kind, Kind::Put(_)));
@@ -87,6 +90,8 @@ fn conflict_edges(
             ] {
                 add(name, number == wanted);
             }
+            add("a scan behind the 8th", number > 8);
+            add("scan 64", number == 64);
             add("a scan behind points", !record.points.is_empty());
             add(
                 "a scan above its low end",

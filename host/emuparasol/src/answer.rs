@@ -112,8 +112,8 @@ pub enum Error {
     /// Too few bytes: the log merely stops, within a record. More may come, or an append
     /// was cut short.
     TornLog,
-    /// Two bytes that are no length of a record, below 7 or above 903: no record can
-    /// stand there, whatever comes behind them.
+    /// Two bytes that are no length of a record, below 7 or above 13,833: no record
+    /// can stand there, whatever comes behind them.
     ImpossibleLength,
     /// A number that R3 does not have, or 0 beside a length or a number that cannot be.
     /// The library is proved to answer no such thing; another archive might.

@@ -16,7 +16,9 @@ pub const CARRY_BYTES: usize = MOST_RECORD;
 /// something that a call has left (R48).
 ///
 /// It belongs to one pool and one place of the log. Where the log is read again from
-/// another place, from its first byte after a reset for instance, take a new one.
+/// another place, from its first byte after a reset for instance, [`forget`](Carry::forget)
+/// what is carried, or take a new one. It has some 14 KB: keep it in a `static`, or beside
+/// the pool.
 #[derive(Clone)]
 pub struct Carry {
     bytes: [u8; CARRY_BYTES],
@@ -30,6 +32,12 @@ impl Carry {
             bytes: [0; CARRY_BYTES],
             count: 0,
         }
+    }
+
+    /// Forgets what is carried: the next part begins with a record's first byte. No byte
+    /// is cleared for that.
+    pub fn forget(&mut self) {
+        self.count = 0;
     }
 
     /// The bytes that are carried, as they came in; none between two records.

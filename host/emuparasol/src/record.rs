@@ -1,16 +1,23 @@
 //! Records: points, scans, and the bytes of R4.
 
+use core::fmt;
+
 use crate::answer::{done, front, Error};
 use crate::calls;
 
 /// The bytes of the shortest record.
 pub const LEAST_RECORD: usize = 9;
 /// The bytes of the longest record.
-pub const MOST_RECORD: usize = 905;
+pub const MOST_RECORD: usize = 13_835;
 /// The most points that a record can have.
-pub const MOST_POINTS: usize = 64;
+pub const MOST_POINTS: usize = 1_024;
 /// The most scans that a record can have.
-pub const MOST_SCANS: usize = 8;
+pub const MOST_SCANS: usize = 64;
+
+/// The most points and scans of a record of version 1 (R53). The library decides the
+/// version; here these say only how much room a call is lent.
+const FEW_POINTS: usize = 64;
+const FEW_SCANS: usize = 8;
 
 /// A key, and what a record does with it (R5).
 #[derive(Clone, Copy, Debug, PartialEq, Eq, Hash)]
@@ -98,9 +105,14 @@ pub struct Scan {
 /// the log.
 ///
 /// The keys of the points rise, and so do the scans, without a key in common; a
-/// record that breaks this, or has more than 64 points or 8 scans, is malformed. A
-/// list that was gathered in another order is put in order by
+/// record that breaks this, or has more than [`MOST_POINTS`] points or [`MOST_SCANS`]
+/// scans, is malformed. A list that was gathered in another order is put in order by
 /// `points.sort_unstable_by_key(|point| point.key())`.
+///
+/// With at most 64 points and 8 scans its bytes have version 1, and there are 905 of them
+/// at most; with more of either they have version 2 (R53). Every card on a log has to
+/// know version 2 before the first such record is written: docs/FIRMWARE.md, "Moving to
+/// version 2".
 ///
 /// ```
 /// use emuparasol::{Error, Point, Record, RecordBuffer, Scan, MOST_RECORD};
@@ -122,15 +134,19 @@ pub struct Scan {
 pub struct Record<'a> {
     /// The position up to which the transaction had seen the log.
     pub snapshot: u32,
-    /// At most 64, by rising key.
+    /// At most 1,024, by rising key.
     pub points: &'a [Point],
-    /// At most 8, rising, without a key in common.
+    /// At most 64, rising, without a key in common.
     pub scans: &'a [Scan],
 }
 
 impl Record<'_> {
     /// Writes the record's bytes to the front of the output and gives them; the rest
-    /// of the output is as it was. [`MOST_RECORD`] bytes are always enough.
+    /// of the output is as it was. [`MOST_RECORD`] bytes are always enough, and 905 for a
+    /// record of at most 64 points and 8 scans.
+    ///
+    /// The points and scans are copied to lists on the stack: 896 bytes for such a
+    /// record, 13,824 for a larger one.
     ///
     /// # Errors
     /// [`Error::Malformed`] if the points or scans break a rule; else
@@ -150,7 +166,21 @@ impl Record<'_> {
     /// # Ok::<(), Error>(())
     /// ```
     pub fn write<'o>(&self, output: &'o mut [u8]) -> Result<&'o [u8], Error> {
-        let mut lists = Lists::EMPTY;
+        if self.points.len() <= FEW_POINTS && self.scans.len() <= FEW_SCANS {
+            self.write_by::<FEW_POINTS, FEW_SCANS>(output)
+        } else {
+            self.write_by::<MOST_POINTS, MOST_SCANS>(output)
+        }
+    }
+
+    /// Writes the record by lists of this length. A function of its own for each length,
+    /// so that a small record takes no more of the stack than it needs.
+    #[inline(never)]
+    fn write_by<'o, const POINTS: usize, const SCANS: usize>(
+        &self,
+        output: &'o mut [u8],
+    ) -> Result<&'o [u8], Error> {
+        let mut lists = Lists::<POINTS, SCANS>::EMPTY;
         let lent = lists.lent(self.points.len(), self.scans.len());
         // More than the lists have room for is more than a record can have.
         let lent = lent.ok_or(Error::Malformed)?;
@@ -178,7 +208,8 @@ impl Record<'_> {
     }
 }
 
-/// Room for any one record that is read: 64 points and 8 scans, no heap.
+/// Room for one record that is read, without a heap: by default for any, which is 1,024
+/// points and 64 scans.
 ///
 /// ```
 /// use emuparasol::{Error, RecordBuffer};
@@ -191,34 +222,78 @@ impl Record<'_> {
 /// assert_eq!(buffer.read(&bytes[1..]), Err(Error::Malformed));
 /// # Ok::<(), Error>(())
 /// ```
-#[derive(Clone, Debug)]
-pub struct RecordBuffer {
+///
+/// That is 17 KB: make it once, in a `static` for instance, and read one record after the
+/// other into it. A card that meets only small records takes a smaller one:
+///
+/// ```
+/// use emuparasol::{Error, Point, Record, RecordBuffer};
+///
+/// // Any record of version 1, in some 1,100 bytes.
+/// let mut small = RecordBuffer::<64, 8>::with_room();
+/// let points: Vec<Point> = (0..65).map(Point::read).collect();
+/// let mut output = [0; 400];
+/// let record = Record { snapshot: 0, points: &points[..64], scans: &[] };
+/// assert_eq!(small.read(record.write(&mut output)?), Ok(record));
+/// let record = Record { points: &points, ..record };
+/// assert_eq!(small.read(record.write(&mut output)?), Err(Error::OutputShort));
+/// # Ok::<(), Error>(())
+/// ```
+#[derive(Clone)]
+pub struct RecordBuffer<const POINTS: usize = MOST_POINTS, const SCANS: usize = MOST_SCANS> {
     snapshot: u32,
-    points: [Point; MOST_POINTS],
+    points: [Point; POINTS],
     point_count: u64,
-    scans: [Scan; MOST_SCANS],
+    scans: [Scan; SCANS],
     scan_count: u64,
 }
 
 impl RecordBuffer {
-    /// A buffer that holds the empty record with snapshot 0.
+    /// A buffer for any record; it holds the empty one with snapshot 0. It is `const`,
+    /// for a `static`.
     pub const fn new() -> RecordBuffer {
+        RecordBuffer::with_room()
+    }
+}
+
+impl<const POINTS: usize, const SCANS: usize> RecordBuffer<POINTS, SCANS> {
+    /// A buffer for so many points and scans; it holds the empty record with snapshot 0.
+    pub const fn with_room() -> RecordBuffer<POINTS, SCANS> {
         RecordBuffer {
             snapshot: 0,
-            points: [Point::read(0); MOST_POINTS],
+            points: [Point::read(0); POINTS],
             point_count: 0,
-            scans: [Scan { low: 0, high: 0 }; MOST_SCANS],
+            scans: [Scan { low: 0, high: 0 }; SCANS],
             scan_count: 0,
         }
     }
 
     /// Takes the bytes of a record apart and gives what they say.
     ///
+    /// The library fills lists on the stack, and they are copied here: 896 bytes for a
+    /// record of version 1, up to 13,824 for one of version 2.
+    ///
     /// # Errors
-    /// [`Error::Malformed`] if the bytes are no well-formed record; the buffer then
-    /// holds what it held.
+    /// [`Error::Malformed`] if the bytes are no well-formed record; else
+    /// [`Error::OutputShort`] if it has more points or scans than the buffer has room
+    /// for. The buffer then holds what it held.
     pub fn read(&mut self, record: &[u8]) -> Result<Record<'_>, Error> {
-        let mut lists = Lists::EMPTY;
+        // Only a record whose version is 2 can need more than the short lists (R53); what
+        // lies about its version is malformed, whatever is lent.
+        match record.get(2) {
+            Some(2) => self.read_by::<POINTS, SCANS>(record),
+            _ => self.read_by::<FEW_POINTS, FEW_SCANS>(record),
+        }
+    }
+
+    /// Reads a record by lists of this length. A function of its own for each length, so
+    /// that a small record takes no more of the stack than it needs.
+    #[inline(never)]
+    fn read_by<const LISTED: usize, const RANGES: usize>(
+        &mut self,
+        record: &[u8],
+    ) -> Result<Record<'_>, Error> {
+        let mut lists = Lists::<LISTED, RANGES>::EMPTY;
         let (mut snapshot, mut point_count, mut scan_count) = (0, 0, 0);
         done(calls::read(
             record,
@@ -233,6 +308,9 @@ impl RecordBuffer {
         ))?;
         let kinds = front(&lists.kinds, point_count)?;
         let lows = front(&lists.lows, scan_count)?;
+        if kinds.len() > POINTS || lows.len() > SCANS {
+            return Err(Error::OutputShort);
+        }
         (self.point_count, self.scan_count) = (0, 0);
         let listed = kinds.iter().zip(&lists.keys).zip(&lists.payloads);
         for (point, ((&kind, &key), &payload)) in self.points.iter_mut().zip(listed) {
@@ -264,6 +342,14 @@ impl Default for RecordBuffer {
     }
 }
 
+impl<const POINTS: usize, const SCANS: usize> fmt::Debug for RecordBuffer<POINTS, SCANS> {
+    fn fmt(&self, out: &mut fmt::Formatter<'_>) -> fmt::Result {
+        out.debug_tuple("RecordBuffer")
+            .field(&self.record())
+            .finish()
+    }
+}
+
 /// Are these bytes exactly one well-formed record (R9)?
 ///
 /// # Errors
@@ -272,13 +358,13 @@ pub fn check(record: &[u8]) -> Result<(), Error> {
     done(calls::check(record))
 }
 
-/// The lists of R10, with room for the longest record.
-struct Lists {
-    kinds: [u8; MOST_POINTS],
-    keys: [u32; MOST_POINTS],
-    payloads: [u64; MOST_POINTS],
-    lows: [u32; MOST_SCANS],
-    highs: [u32; MOST_SCANS],
+/// The lists of R10, with room for so many points and scans.
+struct Lists<const POINTS: usize, const SCANS: usize> {
+    kinds: [u8; POINTS],
+    keys: [u32; POINTS],
+    payloads: [u64; POINTS],
+    lows: [u32; SCANS],
+    highs: [u32; SCANS],
 }
 
 /// The fronts of such lists.
@@ -290,13 +376,13 @@ struct Lent<'a> {
     highs: &'a mut [u32],
 }
 
-impl Lists {
-    const EMPTY: Lists = Lists {
-        kinds: [0; MOST_POINTS],
-        keys: [0; MOST_POINTS],
-        payloads: [0; MOST_POINTS],
-        lows: [0; MOST_SCANS],
-        highs: [0; MOST_SCANS],
+impl<const POINTS: usize, const SCANS: usize> Lists<POINTS, SCANS> {
+    const EMPTY: Lists<POINTS, SCANS> = Lists {
+        kinds: [0; POINTS],
+        keys: [0; POINTS],
+        payloads: [0; POINTS],
+        lows: [0; SCANS],
+        highs: [0; SCANS],
     };
 
     /// Their fronts for so many points and scans; none if there is no room.

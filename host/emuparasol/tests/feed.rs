@@ -8,7 +8,7 @@ use common::{fresh, means, seeded};
 use emuparasol::{Carry, Error, Pool, Verdict, CARRY_BYTES};
 use reference::program::split;
 use reference::random::Random;
-use reference::{Limits, LogReader, State, Step};
+use reference::{Limits, LogReader, Point, Record, Scan, State, Step};
 
 /// What happened, as the header numbers it.
 const REFUSED: u8 = 0;
@@ -185,7 +185,7 @@ fn in_parts_of_any_size() {
             10 => torn += 1,
             _ => impossible += 1,
         }
-        for size in [1, 2, 3, 256, 905, 2_048, usize::MAX] {
+        for size in [1, 2, 3, 256, 905, 2_048, CARRY_BYTES, usize::MAX] {
             let mut feeder = Feeder::new(limits);
             assert_eq!(
                 fed(&mut feeder, log.chunks(size)),
@@ -230,20 +230,111 @@ fn the_log_is_over_with_its_last_part() {
     }
 }
 
+#[test]
+fn records_of_version_2_in_parts() {
+    let limits = Limits::new(1_600, 8).expect("good limits");
+    let put = |snapshot, first: u32, points: u32, scans: u32| {
+        let scan = |low| Scan { low, high: low };
+        let record = Record {
+            snapshot,
+            points: (first..first + points)
+                .map(|key| Point::put(key, 7))
+                .collect(),
+            scans: (10_000..10_000 + scans).map(scan).collect(),
+        };
+        record.written().expect("it keeps the rules")
+    };
+    let records = [
+        put(0, 1, 3, 0),
+        put(1, 100, 65, 0),     // the shortest of version 2 that has only puts
+        put(0, 200, 1, 9),      // by its scans
+        put(3, 500, 1_024, 64), // the longest that there is
+        put(3, 1_400, 64, 8),   // in conflict with it
+        put(4, 2_000, 400, 0),
+        put(6, 1, 1_024, 0), // no room
+    ];
+    let log = records.concat();
+    let (expected, state) = walk(limits, &log);
+    let verdicts: Vec<u8> = expected.0.iter().map(|it| it.0).collect();
+    assert_eq!(verdicts, [0, 0, 0, 0, 1, 0, 3]);
+    for size in [
+        1,
+        255,
+        256,
+        2_048,
+        4_096,
+        13_834,
+        13_835,
+        13_836,
+        usize::MAX,
+    ] {
+        let mut feeder = Feeder::new(limits);
+        // Byte by byte only the first records: each call copies pool and carry here.
+        let log = if size == 1 { &log[..1_100] } else { &log };
+        let (expected, state) = walk(limits, log);
+        assert_eq!(fed(&mut feeder, log.chunks(size)), expected, "{size}");
+        means(&feeder.pool, &state);
+    }
+    // Cut at each byte of a head, and about each record's end.
+    let mut ends = vec![0];
+    for record in &records {
+        ends.push(ends[ends.len() - 1] + record.len());
+    }
+    for end in ends {
+        for cut in end.saturating_sub(3)..=(end + 14).min(log.len()) {
+            let mut feeder = Feeder::new(limits);
+            let parts = [&log[..cut], &log[cut..]];
+            assert_eq!(fed(&mut feeder, parts), expected, "cut at {cut}");
+            means(&feeder.pool, &state);
+        }
+    }
+}
+
 /// A pool for three keys, and the empty record of 9 bytes.
 fn small() -> Limits {
     Limits::new(3, 4).expect("good limits")
 }
 const EMPTY: [u8; 9] = [0, 7, 1, 0, 0, 0, 0, 0, 0];
 
+/// Can a record have this length?
+fn can_be(length: u16) -> bool {
+    (7..=13_833).contains(&length)
+}
+
 #[test]
-fn an_impossible_length_is_said_as_soon_as_it_is_in() {
+fn of_every_length_it_is_said_whether_it_can_be() {
+    let mut pool = fresh(small());
+    let mut carry = vec![0; CARRY_BYTES];
     for length in 0..=u16::MAX {
         let bytes = length.to_be_bytes();
-        let possible = (7..=903).contains(&length);
-        if possible && length % 50 != 3 {
-            continue;
-        }
+        let (mut carried, mut happened, mut looks, mut taken) = (0, 9, 9, 9);
+        let answer = emuparasol::calls::feed(
+            &mut pool,
+            &mut carry,
+            &mut carried,
+            &bytes,
+            false,
+            &mut happened,
+            &mut looks,
+            &mut taken,
+        );
+        let expected = if can_be(length) {
+            (MORE, 0)
+        } else {
+            (REFUSED, 11)
+        };
+        assert_eq!((happened, answer), expected, "{length}");
+        assert_eq!((looks, taken, carried), (0, 2, 2));
+        assert_eq!(carry[..2], bytes);
+    }
+}
+
+#[test]
+fn an_impossible_length_is_said_as_soon_as_it_is_in() {
+    let about = (0..=20).chain(890..=920).chain(13_800..=13_900);
+    for length in about.chain((0..=u16::MAX).step_by(50)) {
+        let bytes = length.to_be_bytes();
+        let possible = can_be(length);
         for cut in [0, 1, 2] {
             if length % 100 != 0 && cut != 1 {
                 continue;
@@ -276,7 +367,7 @@ fn an_impossible_length_is_said_as_soon_as_it_is_in() {
 
 #[test]
 fn an_impossible_length_is_said_to_every_later_part() {
-    for behind in [&[0x03, 0x88][..], &[0, 0], &[0xFF; 905]] {
+    for behind in [&[0x36, 0x0A][..], &[0, 0], &[0xFF; CARRY_BYTES]] {
         let log = [&EMPTY[..], behind].concat();
         for cut in 0..=EMPTY.len() + 2 {
             let mut feeder = Feeder::new(small());
@@ -364,17 +455,25 @@ fn what_no_call_leaves_is_refused() {
         true
     };
     // A carry of another size, whatever is carried.
-    for size in [0, 1, 2, 904, 906, 2_000] {
-        for carried in [0, 1, 2, 904, 905, u64::MAX] {
+    for size in [0, 1, 2, 904, 905, 906, 2_000, 13_834, 13_836, 20_000] {
+        for carried in [0, 1, 2, 904, 905, 13_834, 13_835, u64::MAX] {
             assert!(refused(&vec![0; size], carried, false));
         }
     }
     // R48: of each length every count.
-    for length in [0, 1, 6, 7, 8, 100, 902, 903, 904, 1_000, 65_535_u16] {
+    for length in [
+        0, 1, 6, 7, 8, 100, 902, 903, 904, 13_832, 13_833, 13_834, 65_535_u16,
+    ] {
         let mut carry = vec![0x11; CARRY_BYTES];
         carry[..2].copy_from_slice(&length.to_be_bytes());
-        let possible = (7..=903).contains(&length);
-        for carried in (0..=1_000).chain([u64::MAX - 1, u64::MAX]) {
+        let possible = can_be(length);
+        let about = u64::from(length).saturating_sub(3)..=u64::from(length) + 5;
+        let most = 13_830..=13_840;
+        for carried in (0..=1_000)
+            .chain(about)
+            .chain(most)
+            .chain([u64::MAX - 1, u64::MAX])
+        {
             let may = match carried {
                 0 | 1 => true,
                 2 => true,
@@ -408,6 +507,18 @@ fn a_carry_says_what_it_carries() {
         Err(Error::ImpossibleLength)
     );
     assert_eq!(carry.as_bytes(), [0, 3]);
+    // What is carried is forgotten, and a record begins anew; also behind such a length.
+    carry.forget();
+    assert!(carry.as_bytes().is_empty());
+    assert_eq!(
+        pool.feed(&mut carry, &EMPTY[..4], false),
+        Ok(emuparasol::Fed::More)
+    );
+    carry.forget();
+    assert!(matches!(
+        pool.feed(&mut carry, &EMPTY, true),
+        Ok(emuparasol::Fed::Decided { taken: 9, .. })
+    ));
 }
 
 #[test]

@@ -267,7 +267,7 @@ fn in_force_by_answer() {
     for end in 1..refreshed.len() {
         assert_eq!(in_force(Ok(&refreshed[..end]), &original), None);
     }
-    for length in [0, 6, 904, u16::MAX] {
+    for length in [0, 6, 13_834, u16::MAX] {
         let mut wrong = vec![0; 2 + usize::from(length)];
         wrong[..2].copy_from_slice(&length.to_be_bytes());
         assert_eq!(in_force(Ok(&wrong), &original), None, "{length}");

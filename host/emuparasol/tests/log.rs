@@ -117,10 +117,10 @@ fn a_place_past_the_end_is_torn() {
 
 #[test]
 fn lengths_of_records() {
-    for length in 0..=1_100_usize {
+    for length in (0..=1_100_usize).chain(13_800..=13_900) {
         let mut log = vec![0; 2 + length];
         log[..2].copy_from_slice(&(length as u16).to_be_bytes());
-        let good = (7..=903).contains(&length);
+        let good = (7..=13_833).contains(&length);
         let parts = if good { vec![&log[..]] } else { vec![] };
         let place = if good { log.len() } else { 0 };
         let stopped = (!good).then_some((0, Error::ImpossibleLength));
@@ -128,10 +128,10 @@ fn lengths_of_records() {
     }
     // The longest record, and a byte missing; a malformed record is still a record.
     let mut log = vec![0; MOST_RECORD];
-    log[..2].copy_from_slice(&903_u16.to_be_bytes());
+    log[..2].copy_from_slice(&13_833_u16.to_be_bytes());
     assert_eq!(walk(Records::new(&log)).0, [&log[..]]);
     let torn = Some((0, Error::TornLog));
-    assert_eq!(walk(Records::new(&log[..904])).1, torn);
+    assert_eq!(walk(Records::new(&log[..13_834])).1, torn);
 }
 
 #[test]
@@ -140,9 +140,13 @@ fn torn_or_never_a_record() {
     let mut log = vec![0xFF; usize::from(u16::MAX) + 3];
     for length in 0..=u16::MAX {
         log[..2].copy_from_slice(&length.to_be_bytes());
-        let possible = (7..=903).contains(&length);
+        let possible = (7..=13_833).contains(&length);
         let whole = usize::from(length) + 2;
-        for left in [1, 2, 3, 8, 9, whole - 1, whole, whole + 1, 904, 905, 2_000] {
+        let about = [whole - 1, whole, whole + 1];
+        for left in [1, 2, 3, 8, 9, 904, 905, 2_000, 13_834, 13_835]
+            .into_iter()
+            .chain(about)
+        {
             let step = Records::new(&log[..left]).next().expect("not the end");
             let step = step.map_err(|error| (error.place, error.why));
             let wanted = match possible {

@@ -1,11 +1,13 @@
 //! Records: check, read, write and cut against the reference, on records of
 //! every length, valid and damaged; by the calls with their lists, and by the types.
+//! What version 2 adds, and where one version ends and the other begins, is in
+//! `versions.rs`.
 
 mod common;
 
 use common::raw::{read, write, Lists};
 use common::{check, cut, full_buffer, same_record};
-use emuparasol::Error;
+use emuparasol::{Error, MOST_POINTS, MOST_RECORD, MOST_SCANS};
 use reference::lists::{self, ListsOut};
 use reference::random::Random;
 use reference::record::with_length;
@@ -76,7 +78,7 @@ fn cut_both(log: &[u8], place: usize) {
     assert_eq!(cut(log, place), (answer.number(), reader.place()));
 }
 
-/// A well-formed record of so many bytes, if there is one.
+/// A well-formed record of version 1 of so many bytes, if there is one.
 fn of_length(length: usize, random: &mut Random) -> Option<Record> {
     let mut shapes = Vec::new();
     for scans in 0..=8_usize {
@@ -123,6 +125,7 @@ fn records_of_every_length_from_0_to_1000() {
     for length in 0..=1_000 {
         let any: Vec<u8> = (0..length).map(|_| random.word() as u8).collect();
         read_both(&any, 64, 8);
+        read_both(&any, MOST_POINTS, MOST_SCANS);
         cut_both(&any, 0);
         if length >= 2 {
             let mut headed = with_length(&any[2..]);
@@ -137,6 +140,18 @@ fn records_of_every_length_from_0_to_1000() {
                 }
             }
             read_both(&headed, 64, 8);
+            for (place, byte) in [
+                (2, 2),
+                (7, random.below(5) as u8),
+                (8, random.word() as u8),
+                (9, 0),
+                (10, random.below(70) as u8),
+            ] {
+                if place < length {
+                    headed[place] = byte;
+                }
+            }
+            read_both(&headed, MOST_POINTS, MOST_SCANS);
         }
         let Some(record) = of_length(length, &mut random) else {
             continue;
@@ -292,13 +307,13 @@ fn lists_written_valid_and_damaged() {
                     lists.highs[at] = lists.lows[at].wrapping_sub(random.between(0, 1));
                 }
                 _ => {
-                    lists.kinds.resize(65, 1);
-                    lists.payloads.resize(65, 0);
-                    let last = lists.keys[points - 1];
-                    lists.keys = (0..65).map(|one| last.wrapping_add(one)).collect();
+                    let many = MOST_POINTS + 1;
+                    lists.kinds.resize(many, 1);
+                    lists.payloads.resize(many, 0);
+                    lists.keys = (0..many as u32).collect();
                 }
             }
-            counts[usize::from(write_both(snapshot, &lists, 2_000))] += 1;
+            counts[usize::from(write_both(snapshot, &lists, MOST_RECORD + 100))] += 1;
         }
     }
     assert!(
@@ -336,8 +351,8 @@ fn records_written_are_read_back() {
 #[test]
 fn points_and_scans_that_break_a_rule_are_malformed() {
     use emuparasol::{Point, Record, Scan};
-    let rising: Vec<Point> = (0..65).map(Point::read).collect();
-    let apart: Vec<Scan> = (0..9).map(|low| Scan { low, high: low }).collect();
+    let rising: Vec<Point> = (0..1_025).map(Point::read).collect();
+    let apart: Vec<Scan> = (0..65).map(|low| Scan { low, high: low }).collect();
     let scan = |low, high| Scan { low, high };
     let written = |points: &[Point], scans: &[Scan]| {
         let snapshot = 5;
@@ -349,16 +364,26 @@ fn points_and_scans_that_break_a_rule_are_malformed() {
         // Malformed comes before output short.
         assert_eq!(
             common::write(&record, 0).0 == 4,
-            common::write(&record, 1_000).0 == 4
+            common::write(&record, MOST_RECORD).0 == 4
         );
-        common::write(&record, 1_000).0
+        common::write(&record, MOST_RECORD).0
     };
     assert_eq!(written(&rising[..64], &apart[..8]), 0);
+    assert_eq!(written(&rising[..1_024], &apart[..64]), 0);
     assert_eq!(written(&rising, &[]), 4);
     assert_eq!(written(&[], &apart), 4);
     let many = vec![Point::read(1); 1_000];
     assert_eq!(written(&many, &[]), 4);
+    assert_eq!(written(&vec![Point::read(1); 100_000], &[]), 4);
+    assert_eq!(written(&[], &vec![scan(1, 1); 50]), 4);
     assert_eq!(written(&[], &vec![scan(1, 1); 1_000]), 4);
+    // Out of order far behind: the last two of the most.
+    let mut swapped = rising[..1_024].to_vec();
+    swapped.swap(1_022, 1_023);
+    assert_eq!(written(&swapped, &[]), 4);
+    let mut swapped = apart[..64].to_vec();
+    swapped.swap(62, 63);
+    assert_eq!(written(&[], &swapped), 4);
     // Not in order, and the same key twice, whatever is done with it.
     assert_eq!(written(&[Point::read(2), Point::read(1)], &[]), 4);
     assert_eq!(written(&[Point::put(3, 1), Point::delete(3)], &[]), 4);
@@ -421,10 +446,10 @@ fn lists_of_unequal_lengths_are_refused() {
         }
         assert_eq!(write(3, &lists, &mut output), (4, 0), "list {short}");
     }
-    let nine: Vec<u32> = (0..9).collect();
+    let many: Vec<u32> = (0..65).collect();
     let lists = Lists {
-        lows: nine.clone(),
-        highs: nine,
+        lows: many.clone(),
+        highs: many,
         ..lists
     };
     assert_eq!(write(3, &lists, &mut output), (4, 0));

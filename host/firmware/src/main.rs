@@ -25,7 +25,7 @@ use system::{read_all, say, say_number};
 /// The largest N of the program.
 const MOST_N: u32 = 1_000;
 /// The longest input.
-const MOST_INPUT: usize = 1 << 20;
+const MOST_INPUT: usize = 1 << 21;
 /// The bytes of a page.
 const PAGE: usize = 256;
 
@@ -45,10 +45,9 @@ fn split(input: &[u8]) -> Option<(Limits, &[u8])> {
 }
 
 /// Is the record, if it is well formed, written again as the same bytes?
-fn there_and_back(bytes: &[u8], buffer: &mut RecordBuffer) -> bool {
-    let mut output = [0; MOST_RECORD];
+fn there_and_back(bytes: &[u8], buffer: &mut RecordBuffer, output: &mut [u8]) -> bool {
     match buffer.read(bytes) {
-        Ok(record) => check(bytes).is_ok() && record.write(&mut output) == Ok(bytes),
+        Ok(record) => check(bytes).is_ok() && record.write(output) == Ok(bytes),
         Err(error) => check(bytes) == Err(error) && error == Error::Malformed,
     }
 }
@@ -82,10 +81,25 @@ fn explained_alike<B: AsRef<[u8]>>(
         && (explained.verdict, explained.looks) == (melded.verdict, melded.looks)
 }
 
+/// A card that meets only small records lends less: does it get the same record, or is it
+/// told that there is no room exactly for the others?
+fn small_alike(bytes: &[u8], small: &mut RecordBuffer<64, 8>, buffer: &RecordBuffer) -> bool {
+    let Record { points, scans, .. } = buffer.record();
+    match small.read(bytes) {
+        Ok(record) => record == buffer.record(),
+        Err(Error::OutputShort) => points.len() > 64 || scans.len() > 8,
+        Err(error) => check(bytes) == Err(error),
+    }
+}
+
 /// Does a refresh before the meld agree with its verdict (R38)?
-fn refreshed_alike<B: AsRef<[u8]>>(pool: &Pool<B>, bytes: &[u8], verdict: Verdict) -> bool {
-    let mut output = [0; MOST_RECORD];
-    let refreshed = pool.refresh(bytes, &mut output);
+fn refreshed_alike<B: AsRef<[u8]>>(
+    pool: &Pool<B>,
+    bytes: &[u8],
+    verdict: Verdict,
+    output: &mut [u8],
+) -> bool {
+    let refreshed = pool.refresh(bytes, output);
     let appended = in_force(refreshed, bytes).is_some();
     match verdict {
         // Refresh does not ask for room.
@@ -152,7 +166,10 @@ fn meld_log(bytes: &mut [u8], limits: Limits, log: &[u8]) -> Result<(), Error> {
     };
     let mut pool = Pool::create(bytes, limits)?;
     let mut before = [0; pool_bytes(MOST_N)];
+    // The room of the longest record, made once and used for each.
     let mut buffer = RecordBuffer::new();
+    let mut small = RecordBuffer::with_room();
+    let mut output = [0; MOST_RECORD];
     for part in Records::new(log) {
         let part = match part {
             Ok(part) => part,
@@ -181,12 +198,13 @@ fn meld_log(bytes: &mut [u8], limits: Limits, log: &[u8]) -> Result<(), Error> {
         let committed = melded.verdict == Verdict::Committed;
         let right = paged.next() == Ok(Some(melded))
             && paged.pool.as_bytes() == pool.as_bytes()
-            && there_and_back(part, &mut buffer)
+            && there_and_back(part, &mut buffer, &mut output)
+            && small_alike(part, &mut small, &buffer)
             && part.len() >= LEAST_RECORD
             && status.limits == limits
             && status.tombstones <= status.kept
             && status.kept <= limits.n
-            && refreshed_alike(&Pool::from_bytes(before), part, melded.verdict)
+            && refreshed_alike(&Pool::from_bytes(before), part, melded.verdict, &mut output)
             && explained_alike(&Pool::from_bytes(before), part, melded, buffer.record())
             && (!committed || stored(&pool, buffer.record(), status.position));
         if !right {

@@ -35,7 +35,10 @@ pub fn of_rust(text: &str) -> Result<Vec<Size>, String> {
     let text = without_comments(text);
     let mut found = Vec::new();
     for part in text.split("pub const ").skip(1) {
-        let Some((name, rest)) = part.split_once(": usize = ") else {
+        let Some((name, rest)) = part.split_once(':') else {
+            continue;
+        };
+        let Some(rest) = rest.strip_prefix(" usize = ") else {
             continue;
         };
         let (value, _) = rest.split_once(';').ok_or(part)?;

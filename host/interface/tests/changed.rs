@@ -266,30 +266,38 @@ fn changed_numbers_of_what_happened_are_noticed() {
 
 #[test]
 fn changed_sizes_are_noticed() {
-    noticed("CARRY_BYTES = 905", |it| {
-        let (from, to) = ("CARRY_BYTES EMUPARASOL_MOST_RECORD", "CARRY_BYTES 904");
+    noticed("CARRY_BYTES = 13835", |it| {
+        let (from, to) = ("CARRY_BYTES EMUPARASOL_MOST_RECORD", "CARRY_BYTES 905");
         change(&mut it.header, from, to)
     });
-    noticed("CARRY_BYTES = 905", |it| {
+    noticed("CARRY_BYTES = 13835", |it| {
         let (from, to) = (
             "CARRY_BYTES: usize = MOST_RECORD",
             "CARRY_BYTES: usize = 1_000",
         );
         change(&mut it.rust_sizes, from, to)
     });
-    noticed("CARRY_BYTES = 903", |it| {
+    noticed("CARRY_BYTES = 13833", |it| {
         let (from, to) = ("carry.len() != MAX_SIZE", "carry.len() != MAX_LENGTH");
         change(&mut it.rattle_pages, from, to)
     });
-    noticed("MOST_RECORD = 905", |it| {
-        change(&mut it.header, "MOST_RECORD 905", "MOST_RECORD 906")
+    noticed("MOST_RECORD = 13835", |it| {
+        change(&mut it.header, "MOST_RECORD 13835", "MOST_RECORD 905")
+    });
+    noticed("MOST_SCANS = 64", |it| {
+        change(&mut it.header, "MOST_SCANS 64", "MOST_SCANS 8")
+    });
+    noticed("MOST_POINTS = 1024", |it| {
+        let (from, to) = ("MOST_POINTS: usize = 1_024", "MOST_POINTS: usize = 64");
+        change(&mut it.rust_sizes, from, to)
     });
     noticed("LEAST_RECORD = 9", |it| {
         let (from, to) = ("LEAST_RECORD: usize = 9", "LEAST_RECORD: usize = 7");
         change(&mut it.rust_sizes, from, to)
     });
-    noticed("MOST_POINTS = 65", |it| {
-        let (from, to) = ("MAX_POINTS: usize = 64", "MAX_POINTS: usize = 65");
+    // A digit more in front, whatever the number is.
+    noticed("MOST_POINTS = 1", |it| {
+        let (from, to) = ("MAX_POINTS: usize = ", "MAX_POINTS: usize = 1");
         change(&mut it.rattle_limits, from, to)
     });
 }

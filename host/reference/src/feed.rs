@@ -66,41 +66,46 @@ pub fn feed(
     if length_in(front).is_some_and(|length| !can_be(length)) {
         return refusal(Answer::ImpossibleLength);
     }
-    let inside = [front, part].concat();
-    let length = length_in(&inside);
+    let inside = carried + part.len();
+    let both = front.iter().chain(part).take(LENGTH_BYTES).copied();
+    let both: Vec<u8> = both.collect();
+    let length = length_in(&both);
     if length.is_some_and(|length| !can_be(length)) {
-        carry[..LENGTH_BYTES].copy_from_slice(&inside[..LENGTH_BYTES]);
+        carry[..LENGTH_BYTES].copy_from_slice(&both);
         return Fed {
             taken: LENGTH_BYTES - carried,
             carried: LENGTH_BYTES,
             ..refusal(Answer::ImpossibleLength)
         };
     }
-    if let Some(record) = length.and_then(|length| inside.get(..length + LENGTH_BYTES)) {
+    let size = length.map(|length| length + LENGTH_BYTES);
+    if let Some(size) = size.filter(|&size| size <= inside) {
         let Some(state) = state else {
             return refusal(Answer::UnfitPool);
         };
-        let verdict = state.meld(record);
+        let taken = size - carried;
+        let record = [front, &part[..taken]].concat();
+        let verdict = state.meld(&record);
         if carried > 0 {
-            carry[..record.len()].copy_from_slice(record);
+            carry[..size].copy_from_slice(&record);
         }
         return Fed {
             said: Said::Answer(verdict.answer),
             looks: verdict.looks,
-            taken: record.len() - carried,
+            taken,
             carried: 0,
         };
     }
     if !over {
-        carry[..inside.len()].copy_from_slice(&inside);
+        carry[carried..inside].copy_from_slice(part);
         return Fed {
             said: Said::More,
             looks: 0,
             taken: part.len(),
-            carried: inside.len(),
+            carried: inside,
         };
     }
-    if inside.is_empty() {
+    if inside == 0 {
         return Fed {
             said: Said::End,
             looks: 0,

@@ -1,4 +1,4 @@
-//! What can be wrong with a record: R4 to R7, R9.
+//! What can be wrong with a record: R4 to R7, R53, R9.
 
 use std::fmt;
 
@@ -7,11 +7,13 @@ use std::fmt;
 pub enum Flaw {
     /// The bytes lent are not exactly length + 2.
     Length,
-    /// The version is not 1.
+    /// The version is neither 1 nor 2.
     Version,
-    /// More than 64 points.
+    /// The counts are those of the other version.
+    OtherVersion,
+    /// More than 1,024 points.
     PointCount,
-    /// More than 8 scans.
+    /// More than 64 scans.
     ScanCount,
     /// A kind other than 1, 2, 3.
     Kind,
@@ -29,9 +31,10 @@ pub enum Flaw {
 
 impl Flaw {
     /// Every flaw.
-    pub const ALL: [Flaw; 10] = [
+    pub const ALL: [Flaw; 11] = [
         Flaw::Length,
         Flaw::Version,
+        Flaw::OtherVersion,
         Flaw::PointCount,
         Flaw::ScanCount,
         Flaw::Kind,
@@ -47,9 +50,10 @@ impl fmt::Display for Flaw {
     fn fmt(&self, out: &mut fmt::Formatter<'_>) -> fmt::Result {
         out.write_str(match self {
             Flaw::Length => "the bytes are not exactly length + 2",
-            Flaw::Version => "the version is not 1",
-            Flaw::PointCount => "more than 64 points",
-            Flaw::ScanCount => "more than 8 scans",
+            Flaw::Version => "the version is neither 1 nor 2",
+            Flaw::OtherVersion => "so many points and scans are for the other version",
+            Flaw::PointCount => "more than 1,024 points",
+            Flaw::ScanCount => "more than 64 scans",
             Flaw::Kind => "a kind other than 1, 2, 3",
             Flaw::KeyOrder => "point keys do not rise strictly",
             Flaw::ScanEnds => "a scan has low above high",

@@ -2,7 +2,7 @@
 //! shares nothing with the proved one. Obvious before quick. R and a number is
 //! a rule of that page.
 //!
-//! From the bottom up: `answer`, `flaw`, `record`, `lists`, `log`, `tree`, `state`,
+//! From the bottom up: `answer`, `flaw`, `version`, `record`, `lists`, `log`, `tree`, `state`,
 //! `refresh`, `feed`, `program`, `pages`, `reason`; `layout` for the bytes of a pool.
 //! `table` has the eleven rows of R44, `words` puts inputs into words, `random` is for
 //! tests and for the tool that compares.
@@ -23,6 +23,7 @@ pub mod refresh;
 pub mod state;
 pub mod table;
 pub mod tree;
+pub mod version;
 pub mod words;
 
 pub use answer::Answer;
@@ -32,3 +33,4 @@ pub use log::{Ending, LogReader, Step};
 pub use reason::{explain, Explained, Reason, Touch};
 pub use record::{Kind, Point, Record, Scan};
 pub use state::{Limits, State, Status, Verdict};
+pub use version::Version;

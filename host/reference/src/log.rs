@@ -47,7 +47,7 @@ pub(crate) fn length_in(bytes: &[u8]) -> Option<usize> {
     Some(usize::from(u16::from_be_bytes(*two)))
 }
 
-/// Is it from 7 to 903?
+/// Is it from 7 to 13,833?
 pub(crate) fn can_be(length: usize) -> bool {
     (LEAST_LENGTH..=MOST_LENGTH).contains(&length)
 }

@@ -1,15 +1,16 @@
-//! The record (R4 to R9), read and written by the table of R4.
+//! The record (R4 to R9, R53), read and written by the table of R4.
 
 use crate::flaw::Flaw;
+use crate::version::Version;
 
 /// The most points a record may have.
-pub const MOST_POINTS: usize = 64;
+pub const MOST_POINTS: usize = 1_024;
 /// The most scans a record may have.
-pub const MOST_SCANS: usize = 8;
+pub const MOST_SCANS: usize = 64;
 /// The least number of bytes after the length field.
 pub const LEAST_LENGTH: usize = 7;
 /// The largest number of bytes after the length field.
-pub const MOST_LENGTH: usize = 903;
+pub const MOST_LENGTH: usize = 13_833;
 
 /// What a point does with its key.
 #[derive(Clone, Copy, Debug, PartialEq, Eq)]
@@ -45,9 +46,9 @@ pub struct Scan {
 pub struct Record {
     /// The snapshot s.
     pub snapshot: u32,
-    /// At most 64 points, keys rising strictly.
+    /// At most 1,024 points, keys rising strictly.
     pub points: Vec<Point>,
-    /// At most 8 scans, each above the one before it.
+    /// At most 64 scans, each above the one before it.
     pub scans: Vec<Scan>,
 }
 
@@ -77,13 +78,15 @@ impl Point {
 }
 
 impl Record {
+    /// The version of a record with these lists (R53).
+    pub fn version(&self) -> Version {
+        Version::of(self.points.len(), self.scans.len())
+    }
+
     /// The first rule on the lists that this record breaks, if any.
     pub fn flaw(&self) -> Option<Flaw> {
-        if self.points.len() > MOST_POINTS {
-            return Some(Flaw::PointCount);
-        }
-        if self.scans.len() > MOST_SCANS {
-            return Some(Flaw::ScanCount);
+        if let Some(flaw) = count_flaw(self.points.len(), self.scans.len()) {
+            return Some(flaw);
         }
         if self.points.windows(2).any(|two| two[0].key >= two[1].key) {
             return Some(Flaw::KeyOrder);
@@ -116,17 +119,16 @@ impl Record {
 
     /// The fields after the length, taken off the front of `rest`.
     fn parse_body(rest: &mut &[u8]) -> Result<Record, Flaw> {
-        let [version] = take(rest).ok_or(Flaw::BytesMissing)?;
-        if version != 1 {
-            return Err(Flaw::Version);
-        }
+        let [number] = take(rest).ok_or(Flaw::BytesMissing)?;
+        let version = Version::numbered(number).ok_or(Flaw::Version)?;
         let snapshot = u32::from_be_bytes(take(rest).ok_or(Flaw::BytesMissing)?);
-        let [points, scans] = take(rest).ok_or(Flaw::BytesMissing)?;
-        if usize::from(points) > MOST_POINTS {
-            return Err(Flaw::PointCount);
+        let points = version.take_count(rest).ok_or(Flaw::BytesMissing)?;
+        let scans = version.take_count(rest).ok_or(Flaw::BytesMissing)?;
+        if let Some(flaw) = count_flaw(points, scans) {
+            return Err(flaw);
         }
-        if usize::from(scans) > MOST_SCANS {
-            return Err(Flaw::ScanCount);
+        if version != Version::of(points, scans) {
+            return Err(Flaw::OtherVersion);
         }
         let points = (0..points)
             .map(|_| parse_point(rest))
@@ -141,13 +143,18 @@ impl Record {
         })
     }
 
-    /// The bytes of R4. Rules are not looked at, so that malformed records
-    /// can be made too; see `written`.
+    /// The bytes of R4, in the version that R53 says. Other rules are not looked
+    /// at, so that malformed records can be made too; see `written`.
     pub fn to_bytes(&self) -> Vec<u8> {
-        let mut body = vec![1];
+        self.to_bytes_in(self.version())
+    }
+
+    /// The same in this version, be it the right one or not.
+    pub fn to_bytes_in(&self, version: Version) -> Vec<u8> {
+        let mut body = vec![version.number()];
         body.extend(self.snapshot.to_be_bytes());
-        body.push(self.points.len() as u8);
-        body.push(self.scans.len() as u8);
+        body.extend(version.count_bytes(self.points.len()));
+        body.extend(version.count_bytes(self.scans.len()));
         for point in &self.points {
             let (number, payload) = match point.kind {
                 Kind::Read => (1, None),
@@ -180,18 +187,27 @@ impl Record {
         self.touches_any(key, key)
     }
 
-    /// Does anything the record names or scans lie in `low` to `high`?
+    /// Does anything the record names or scans lie in `low` to `high`? Since its
+    /// lists rise (R6, R7), it is the first point at `low` or above and the first
+    /// scan that does not end below `low` that tell.
     pub fn touches_any(&self, low: u32, high: u32) -> bool {
+        let point = self.points.partition_point(|point| point.key < low);
+        let scan = self.scans.partition_point(|scan| scan.high < low);
         let named = self
             .points
-            .iter()
-            .any(|point| low <= point.key && point.key <= high);
-        let scanned = self
-            .scans
-            .iter()
-            .any(|scan| scan.low <= high && low <= scan.high);
+            .get(point)
+            .is_some_and(|point| point.key <= high);
+        let scanned = self.scans.get(scan).is_some_and(|scan| scan.low <= high);
         named || scanned
     }
+}
+
+/// Are there too many points or scans, whatever the version?
+fn count_flaw(points: usize, scans: usize) -> Option<Flaw> {
+    if points > MOST_POINTS {
+        return Some(Flaw::PointCount);
+    }
+    (scans > MOST_SCANS).then_some(Flaw::ScanCount)
 }
 
 /// The body with its length in front.

@@ -6,7 +6,7 @@ use reference::pages::{calls, cut, lines, sizes_in, sizes_text};
 use reference::program::{join, run, split};
 use reference::random::Random;
 use reference::record::with_length;
-use reference::table::{self, record};
+use reference::table::{self, record, scanning};
 use reference::{feed, Answer, Ending, Fed, Limits, Point, Said, State, Verdict};
 
 /// A record of 22 bytes that commits at position 1.
@@ -95,7 +95,7 @@ fn row_1_comes_before_an_unfit_pool() {
 
 #[test]
 fn row_2_an_impossible_length_that_is_carried_is_11_again_and_again() {
-    for length in [0_u16, 1, 6, 904, 905, 0x0700, u16::MAX] {
+    for length in [0_u16, 1, 6, 13_834, 13_835, 0x3700, u16::MAX] {
         let lent = carry(&length.to_be_bytes());
         for over in [false, true] {
             for part in [&[][..], &[0], &put()] {
@@ -110,7 +110,7 @@ fn row_2_an_impossible_length_that_is_carried_is_11_again_and_again() {
 
 #[test]
 fn row_3_an_impossible_length_is_11_as_soon_as_its_bytes_are_in() {
-    for length in [0_u16, 1, 6, 904, 905, 0x0700, u16::MAX] {
+    for length in [0_u16, 1, 6, 13_834, 13_835, 0x3700, u16::MAX] {
         let log = [&length.to_be_bytes()[..], &put(), &put()].concat();
         for carried in 0..2 {
             for end in [2, 3, 24, log.len()] {
@@ -260,7 +260,9 @@ fn an_impossible_length_is_11_also_where_the_log_is_over() {
         (6, Answer::ImpossibleLength),
         (7, Answer::TornLog),
         (903, Answer::TornLog),
-        (904, Answer::ImpossibleLength),
+        (904, Answer::TornLog),
+        (13_833, Answer::TornLog),
+        (13_834, Answer::ImpossibleLength),
         (65_535, Answer::ImpossibleLength),
     ] {
         let bytes = with_length(&vec![1; length]);
@@ -285,7 +287,7 @@ fn an_impossible_length_is_11_also_where_the_log_is_over() {
 /// Behind an impossible length: any later parts, empty or whole records, over or not.
 #[test]
 fn behind_11_every_later_call_says_11_and_changes_nothing() {
-    for length in [0_u16, 6, 904, u16::MAX] {
+    for length in [0_u16, 6, 13_834, u16::MAX] {
         let (mut state, mut carry) = (fresh(), carry(&[]));
         let first = [&put()[..], &length.to_be_bytes(), &put()].concat();
         let decided = feed(Some(&mut state), &mut carry, 0, &first, false);
@@ -310,21 +312,26 @@ fn behind_11_every_later_call_says_11_and_changes_nothing() {
 }
 
 /// Lengths that can be and that cannot, edges and middles.
-const LENGTHS: [u16; 16] = [
-    0, 1, 2, 6, 7, 8, 9, 255, 256, 257, 902, 903, 904, 905, 0x0700, 0xFFFF,
+const LENGTHS: [u16; 17] = [
+    0, 1, 6, 7, 8, 9, 255, 256, 903, 904, 905, 0x0700, 13_832, 13_833, 13_834, 13_835, 0xFFFF,
 ];
+
+/// Every count up to a few thousand, and those at the largest carry.
+fn counts() -> impl Iterator<Item = usize> {
+    (0..2_000).chain(CARRY_BYTES - 20..=CARRY_BYTES + 1)
+}
 
 #[test]
 fn what_may_be_carried_for_every_count_and_length() {
     for length in LENGTHS {
         let bytes = with_length(&vec![1; usize::from(length)]);
         let lent = carry(&bytes[..bytes.len().min(CARRY_BYTES)]);
-        let whole = if (7..=903).contains(&length) {
+        let whole = if (7..=13_833).contains(&length) {
             usize::from(length) + 2
         } else {
             3
         };
-        for carried in 0..=CARRY_BYTES + 1 {
+        for carried in counts() {
             let may = carried < whole;
             assert_eq!(may_be_carried(&lent, carried), may, "{length}, {carried}");
             let (found, _, left) = call(&fresh(), &lent, carried, &[1; 12], false);
@@ -338,7 +345,7 @@ fn what_may_be_carried_for_every_count_and_length() {
 fn each_such_carry_is_left_by_a_call() {
     for length in LENGTHS {
         let bytes = with_length(&vec![1; usize::from(length)]);
-        for carried in 0..=CARRY_BYTES {
+        for carried in counts().filter(|&count| count <= CARRY_BYTES) {
             let Some(front) = bytes.get(..carried) else {
                 break;
             };
@@ -389,20 +396,24 @@ fn same_as_whole(input: &[u8], sizes: &[usize]) {
 fn logs() -> Vec<Vec<u8>> {
     let rows = table::input();
     let torn = rows[..rows.len() - 3].to_vec();
-    let impossible = [&rows[..8 + 62], &[0x03, 0x88], &rows[70..90]].concat();
+    let impossible = [&rows[..8 + 62], &[0x36, 0x0A], &rows[70..90]].concat();
     let full = with_length(&[1; 903]);
     let longest = join(
         3,
         4,
         &[&put()[..], &full, &with_length(&[9; 7]), &full[..904]].concat(),
     );
-    let mut logs = vec![rows, torn, impossible, longest, join(3, 4, &[])];
+    let reads: Vec<Point> = (0..300).map(Point::read).collect();
+    let version_2 = record(1, &reads).to_bytes();
+    let version_2 = join(3, 4, &[&put()[..], &version_2, &version_2[..900]].concat());
+    let mut logs = vec![rows, torn, impossible, longest, version_2, join(3, 4, &[])];
     for end in [
         &[0xFF][..],
         &[0, 6],
         &[0, 7],
-        &[3, 0x87, 1],
         &[3, 0x88, 1],
+        &[0x36, 0x09, 1],
+        &[0x36, 0x0A, 1],
         &[0xFF, 0xFF, 1, 1, 1],
     ] {
         logs.push(join(3, 4, &[&put()[..], end].concat()));
@@ -425,6 +436,22 @@ fn cut_into_pages_of_every_size() {
         for size in (1..=60).chain([255, 256, 257, 512, 905, 2_048]) {
             let count = (input.len() - 8) / size + 2;
             same_as_whole(&input, &vec![size; count]);
+        }
+    }
+}
+
+/// The longest record there is, in pages and in single bytes: the carry holds it.
+#[test]
+fn the_longest_record_is_carried() {
+    let points: Vec<Point> = (0..1_024).map(|key| Point::put(key, 1)).collect();
+    let scans: Vec<(u32, u32)> = (0..64).map(|low| (low, low)).collect();
+    let longest = scanning(1, &points, &scans).to_bytes();
+    assert_eq!(longest.len(), CARRY_BYTES);
+    for end in [longest.len() - 1, longest.len()] {
+        let log = [&put()[..], &longest[..end]].concat();
+        for size in [1, 256, 905, 2_048, 13_834, 13_835] {
+            let input = join(3, 4, &log);
+            same_as_whole(&input, &vec![size; log.len() / size + 1]);
         }
     }
 }

@@ -9,7 +9,7 @@ use reference::words::input_words;
 use reference::{Ending, LogReader, Point, Step};
 
 /// Lengths at their edges and beside them, and whether a record may have them.
-const LENGTHS: [(usize, bool); 13] = [
+const LENGTHS: [(usize, bool); 17] = [
     (0, false),
     (1, false),
     (6, false),
@@ -19,8 +19,12 @@ const LENGTHS: [(usize, bool); 13] = [
     (256, true),
     (902, true),
     (903, true),
-    (904, false),
-    (905, false),
+    (904, true),
+    (905, true),
+    (13_832, true),
+    (13_833, true),
+    (13_834, false),
+    (13_835, false),
     (65_534, false),
     (65_535, false),
 ];
@@ -79,8 +83,8 @@ fn two_or_three_bytes_left_are_torn_if_the_length_can_be() {
     for length in 0..=u16::MAX {
         let [high, low] = length.to_be_bytes();
         let wanted = match length {
-            0..=6 | 904.. => Step::Impossible,
-            7..=903 => Step::Torn,
+            0..=6 | 13_834.. => Step::Impossible,
+            7..=13_833 => Step::Torn,
         };
         assert_eq!(step(&[high, low]), wanted, "{length}");
         for third in [0, 1, 0xFF] {
@@ -140,13 +144,37 @@ fn the_program_closes_with_what_stands_behind_the_last_record() {
     assert_eq!(closing(&[]), ("end\n".to_string(), String::new()));
 }
 
+/// The range is that of every version: version 1 with a longer body than it can have is
+/// cut out, costs a position, and the log goes on.
+#[test]
+fn version_1_with_a_length_above_903_is_malformed() {
+    let next = record(1, &[]).to_bytes();
+    for length in [904, 905, 13_832, 13_833] {
+        let mut body = vec![0; length];
+        body[0] = 1;
+        let log = [with_length(&body), next.clone()].concat();
+        assert_eq!(lines(&join(3, 4, &log)), "1 4 0\n2 0 0\nend\n");
+    }
+}
+
+#[test]
+fn long_records_are_shortened_in_words() {
+    let points: Vec<Point> = (0..1_024).map(Point::read).collect();
+    let words = input_words(&join(3, 4, &record(0, &points).to_bytes()));
+    assert!(words.contains("1: s 0, read 0, read 1, "), "{words}");
+    assert!(words.contains(", read 23, ... 992 more ..., read 1016, "));
+    assert!(words.contains(", read 1023 -> 0 committed, looks 0\n    14 09 02 "));
+    assert!(words.contains(" ... 5099 more ... "), "{words}");
+}
+
 #[test]
 fn the_ending_in_words() {
     let words = |log: &[u8]| input_words(&join(3, 4, log));
     assert!(words(&[]).ends_with("\nend\n"));
     assert!(words(&[0]).ends_with("\nthen 10 torn log\n    00\n"));
     assert!(words(&[0, 7, 1]).ends_with("\nthen 10 torn log\n    00 07 01\n"));
-    assert!(words(&[3, 0x88]).ends_with("\nthen 11 impossible length\n    03 88\n"));
+    assert!(words(&[3, 0x88]).ends_with("\nthen 10 torn log\n    03 88\n"));
+    assert!(words(&[0x36, 0x0A]).ends_with("\nthen 11 impossible length\n    36 0A\n"));
 }
 
 /// Logs that lead to "end": the eleven rows, and records at random, well formed and not.
@@ -155,7 +183,7 @@ fn whole_logs() -> Vec<Vec<u8>> {
     let mut logs = vec![table::input().split_off(8)];
     for _ in 0..20 {
         let records = (0..random.below(5)).map(|_| {
-            let most = random.pick(&[7, 8, 20, 903]);
+            let most = random.pick(&[7, 8, 20, 903, 904, 1_500]);
             let length = 7 + random.below(most - 6);
             let body: Vec<u8> = (0..length).map(|_| random.bits() as u8).collect();
             with_length(&body)

@@ -216,13 +216,13 @@ fn the_lines_end_as_those_of_the_program_at_full_size() {
         lines_unread(&join(1, 1, &[&one[..], &[0, 0]].concat())),
         format!("{line}11\n")
     );
-    for length in [0_u16, 6, 904, u16::MAX] {
+    for length in [0_u16, 6, 13_834, u16::MAX] {
         for behind in [&[][..], &[1], &one] {
             let log = [&one[..], &length.to_be_bytes(), behind].concat();
             assert_eq!(lines(&join(1, 1, &log)), format!("{line}11\n"));
         }
     }
-    for length in [7_u16, 903] {
+    for length in [7_u16, 903, 904, 13_833] {
         let log = [&one[..], &length.to_be_bytes(), &[1; 6]].concat();
         assert_eq!(lines(&join(1, 1, &log)), format!("{line}10\n"));
     }

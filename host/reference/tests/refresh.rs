@@ -1,7 +1,7 @@
 //! Refresh and the record in force, case by case.
 
 use reference::refresh::{in_force, refresh};
-use reference::table::record;
+use reference::table::{record, scanning};
 use reference::{Answer, Limits, Point, State};
 
 /// N = 3, Z = 2, after put 10 at position 1 and two empty records.
@@ -21,6 +21,32 @@ fn a_passing_record_gets_the_snapshot_p() {
     assert_eq!(refresh(&state(), &old, &mut out), Answer::Committed);
     assert_eq!(out, [&new[..], &[9, 9]].concat());
     assert_eq!(in_force(Answer::Committed, &old, &out), new);
+}
+
+/// R38: every byte but the snapshot's as before, the version among them; 13,835 bytes are
+/// enough for the longest record there is, and one fewer are not.
+#[test]
+fn a_record_of_version_2_stays_one() {
+    let reads: Vec<Point> = (20..85).map(Point::read).collect();
+    let puts: Vec<Point> = (20..1_044).map(|key| Point::put(key, 7)).collect();
+    let scans: Vec<(u32, u32)> = (0..64).map(|low| (20 + low, 20 + low)).collect();
+    for old in [
+        record(1, &reads),
+        scanning(1, &[], &scans[..9]),
+        scanning(1, &puts, &scans),
+    ] {
+        let old = old.to_bytes();
+        let mut new = old.clone();
+        new[6] = 3;
+        let mut out = vec![9; 13_835];
+        assert_eq!(refresh(&state(), &old, &mut out), Answer::Committed);
+        assert_eq!((&out[..old.len()], old[2]), (&new[..], 2));
+        assert!(out[old.len()..].iter().all(|&byte| byte == 9));
+        assert_eq!(in_force(Answer::Committed, &old, &out), new);
+        let mut short = vec![9; old.len() - 1];
+        assert_eq!(refresh(&state(), &old, &mut short), Answer::OutputShort);
+        assert!(short.iter().all(|&byte| byte == 9));
+    }
 }
 
 #[test]
@@ -73,7 +99,15 @@ fn the_last_position_does_not_stop_a_refresh() {
 fn in_force_is_empty_when_the_log_rule_finds_nothing() {
     let original = record(1, &[]).to_bytes();
     let (torn, one, impossible) = (&original[..8], &original[..1], [0, 6, 1, 0, 0, 0, 0, 0]);
-    for refreshed in [torn, one, &[], &impossible, &[0, 6], &[3, 0x88]] {
+    for refreshed in [
+        torn,
+        one,
+        &[],
+        &impossible,
+        &[0, 6],
+        &[3, 0x88],
+        &[0x36, 0x0A],
+    ] {
         for answer in Answer::ALL {
             let part = in_force(answer, &original, refreshed);
             let wanted = match answer {

@@ -149,5 +149,7 @@ fn an_input_that_cannot_be_read_on_has_no_closing_line() {
     assert_eq!(lines_unread(MOST_N, &join(3, 4, &[0, 6])), "11\n");
     assert_eq!(lines_unread(MOST_N, &join(3, 4, &[0, 7])), "");
     assert_eq!(lines_unread(MOST_N, &join(3, 4, &[3, 0x87])), "");
-    assert_eq!(lines_unread(MOST_N, &join(3, 4, &[3, 0x88])), "11\n");
+    assert_eq!(lines_unread(MOST_N, &join(3, 4, &[3, 0x88])), "");
+    assert_eq!(lines_unread(MOST_N, &join(3, 4, &[0x36, 0x09])), "");
+    assert_eq!(lines_unread(MOST_N, &join(3, 4, &[0x36, 0x0A])), "11\n");
 }

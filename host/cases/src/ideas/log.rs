@@ -58,7 +58,7 @@ pub fn all() -> Vec<Case> {
         ),
         pieces(
             "log-length-903",
-            "Length 903 taken for impossible: it is the longest that is handed out, well formed or not.",
+            "Length 903, the longest of version 1, taken for impossible: it is handed out, well formed or not.",
             (3, 4),
             &[&full, &record(1, &[]).to_bytes()],
         ),
@@ -70,7 +70,8 @@ pub fn all() -> Vec<Case> {
         ),
         pieces(
             "log-length-904",
-            "Length 904 handed out: it is impossible, although its bytes are there.",
+            "Length 904 taken for impossible, as it was before there was version 2: it is handed out, and in \
+             version 1 malformed.",
             (3, 4),
             &[&first, &with_length(&[1; 904]), &first],
         ),
@@ -91,7 +92,7 @@ pub fn endings() -> Vec<Case> {
     vec![
         pieces(
             "log-length-904-past-the-end",
-            "10 said of an impossible length because too few bytes are behind it: where both hold, it is 11.",
+            "11 said of 904 with too few bytes behind it, as before there was version 2: the log is torn.",
             (3, 4),
             &[&first, &[3, 0x88], &first],
         ),
@@ -121,7 +122,7 @@ pub fn endings() -> Vec<Case> {
         ),
         pieces(
             "log-length-903-alone",
-            "11 said of the longest length there is because nothing is behind it: the log merely stops.",
+            "11 said of a length because nothing is behind it: 903 can be, and the log merely stops.",
             (3, 4),
             &[&first, &[3, 0x87]],
         ),
@@ -133,7 +134,7 @@ pub fn endings() -> Vec<Case> {
         ),
         pieces(
             "log-three-bytes-left-impossible",
-            "10 said of a record that runs past the end: 904 is no length, with one byte behind it.",
+            "11 said of 904 with one byte behind it, which was impossible before there was version 2: 10.",
             (3, 4),
             &[&first, &[3, 0x88, 1]],
         ),
@@ -145,7 +146,8 @@ pub fn endings() -> Vec<Case> {
         ),
         pieces(
             "log-impossible-first",
-            "An impossible length in front of all records: it is the only line, and what follows is not read.",
+            "11 said of 904 in front of all records, where it was impossible before there was version 2: the \
+             log is torn, and 10 is the only line.",
             (3, 4),
             &[&[3, 0x88], &first],
         ),

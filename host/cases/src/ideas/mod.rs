@@ -1,9 +1,10 @@
 //! The conformance set: small logs, one idea each, by section of docs/RULES.md.
-//! The snapshot read little-endian comes first. Module `parts` has those of the
-//! page form, module `reason` those for which the reasons matter.
+//! The snapshot read little-endian comes first, version 2 last. Module `parts` has those
+//! of the page form, module `reason` those for which the reasons matter.
 
 mod conflict;
 mod easy;
+pub mod larger;
 mod limits;
 pub mod log;
 mod looks;
@@ -21,7 +22,7 @@ use crate::Case;
 
 /// Every idea of the program.
 pub fn all() -> Vec<Case> {
-    [first(), log::endings()].concat()
+    [first(), log::endings(), larger::all()].concat()
 }
 
 /// Those that have the first numbers, in the order of the files.

@@ -10,7 +10,7 @@ use crate::{Case, InParts};
 
 /// The cases.
 pub fn all() -> Vec<InParts> {
-    [first(), torn_or_impossible()].concat()
+    [first(), torn_or_impossible(), larger()].concat()
 }
 
 /// Those that have the first numbers.
@@ -192,8 +192,8 @@ fn endings() -> Vec<InParts> {
             &[10, 1, 9, 9],
             pieces(
                 "parts-impossible-length",
-                "An impossible length in two parts said only at the end, or passed over: 11 is said with its \
-                 second byte, and nothing after it.",
+                "11 said of 904 in two parts, which was impossible before there was version 2: its bytes are \
+                 carried, and 10 is said when the log is over.",
                 (3, 4),
                 &[&nothing(0), &[3, 0x88], &nothing(1), &nothing(2)],
             ),
@@ -236,7 +236,7 @@ pub fn torn_or_impossible() -> Vec<InParts> {
             &[],
             pieces(
                 "parts-impossible-past-the-end",
-                "10 or `more` said of an impossible length because too few bytes are behind it: it is 11.",
+                "11 said of 904 with too few bytes behind it, as before there was version 2: `more`, then 10.",
                 (3, 4),
                 &[&nothing(0), &[3, 0x88], &nothing(1)],
             ),
@@ -294,6 +294,83 @@ pub fn torn_or_impossible() -> Vec<InParts> {
                 "A record of 905 bytes short of its last one, over four pages: 10, with 904 bytes carried.",
                 (3, 4),
                 &[&full[..904]],
+            ),
+        ),
+    ]
+}
+
+/// Records of version 2, and the lengths that came with it.
+pub fn larger() -> Vec<InParts> {
+    let reads: Vec<Point> = (1..=300).map(Point::read).collect();
+    let puts: Vec<Point> = (1..=1_024).map(|key| Point::put(key, 1)).collect();
+    let scans: Vec<(u32, u32)> = (1..=64).map(|low| (low * 10, low * 10 + 1)).collect();
+    let longest = scanning(1, &puts, &scans).to_bytes();
+    let ahead = record(1, &reads[..65]).to_bytes();
+    vec![
+        in_parts(
+            &[9, 8, 1, 1, 1, 300, 25],
+            pieces(
+                "parts-version-2",
+                "A record of version 2 cut between and within its counts: they are 00 41 and 00 00.",
+                (3, 4),
+                &[&nothing(0), &ahead, &nothing(2)],
+            ),
+        ),
+        in_parts(
+            &[512; 4],
+            pieces(
+                "parts-version-2-carry-of-905",
+                "A carry of 905 bytes, or a record of 1,511 bytes decided at 905: it is carried over three pages, and \
+                 what follows is decided behind it.",
+                (3, 4),
+                &[&put(0), &record(0, &reads).to_bytes(), &nothing(2)],
+            ),
+        ),
+        in_parts(
+            &[2_048; 7],
+            pieces(
+                "parts-version-2-longest",
+                "A record of 13,835 bytes over seven pages of 2,048: a carry that is too small for it. It finds \
+                 no room, and takes its position.",
+                (1_000, 4),
+                &[&nothing(0), &longest, &nothing(2)],
+            ),
+        ),
+        in_parts(
+            &[2_048; 7],
+            pieces(
+                "parts-torn-13833",
+                "A record of 13,835 bytes short of its last one, over seven pages: 10, with 13,834 bytes carried.",
+                (3, 4),
+                &[&longest[..13_834]],
+            ),
+        ),
+        in_parts(
+            &[10, 1, 9, 9],
+            pieces(
+                "parts-length-13834",
+                "An impossible length in two parts said only at the end, or passed over: 11 is said with its \
+                 second byte, and nothing after it.",
+                (3, 4),
+                &[&nothing(0), &[0x36, 0x0A], &nothing(1), &nothing(2)],
+            ),
+        ),
+        in_parts(
+            &[],
+            pieces(
+                "parts-length-13834-past-the-end",
+                "10 or `more` said of an impossible length because too few bytes are behind it: it is 11.",
+                (3, 4),
+                &[&nothing(0), &[0x36, 0x0A], &nothing(1)],
+            ),
+        ),
+        in_parts(
+            &[9, 2],
+            pieces(
+                "parts-length-13833-alone",
+                "11 or the end said of a carried length with nothing behind it: 13,833 is a length, and it is 10.",
+                (3, 4),
+                &[&nothing(0), &[0x36, 0x09]],
             ),
         ),
     ]

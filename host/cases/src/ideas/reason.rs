@@ -35,6 +35,11 @@ fn nothing(snapshot: u32) -> Record {
 
 /// The cases.
 pub fn all() -> Vec<Case> {
+    [first(), larger()].concat()
+}
+
+/// Those that have the first numbers.
+pub fn first() -> Vec<Case> {
     [
         keys_told(),
         touches(),
@@ -356,6 +361,41 @@ fn others() -> Vec<Case> {
             "Explaining that takes a position or stores a write: the snapshots behind it would be off.",
             (1, 1),
             &[put(0, 1), put(1, 1), nothing(2), reads(2, &[1]), reads(2, &[1])],
+        ),
+    ]
+}
+
+/// Numbers that only records of version 2 have.
+pub fn larger() -> Vec<Case> {
+    let keys: Vec<u32> = (1..=1_024).collect();
+    let scans: Vec<(u32, u32)> = (1..=64).map(|index| (index * 10, index * 10 + 4)).collect();
+    vec![
+        melds(
+            "reason-point-numbers-above-255",
+            "A point's number told in one byte, or as 64: it is 65, then 256, 299 and 1,024.",
+            (9, 9),
+            &[
+                puts(0, &[65, 256, 300, 1_024]),
+                reads(0, &keys[..65]),
+                reads(0, &[&[0][..], &keys[..64], &keys[65..256]].concat()),
+                reads(0, &[&[0][..], &keys[..64], &keys[65..255], &keys[256..300]].concat()),
+                reads(1, &keys),
+                put(5, 1_024),
+                reads(1, &keys),
+            ],
+        ),
+        melds(
+            "reason-scan-numbers-above-8",
+            "A scan's number told as 8, or behind the points: 94, 100 and 644 are in the 9th, the 10th and the 64th.",
+            (9, 9),
+            &[
+                put(0, 94),
+                reading(0, &[], &scans[..9]),
+                put(1, 100),
+                reading(1, &keys[..65], &scans[..10]),
+                put(3, 644),
+                reading(4, &[], &scans),
+            ],
         ),
     ]
 }

@@ -3,7 +3,7 @@
 
 use reference::record::with_length;
 use reference::table::{record, scanning};
-use reference::{Point, Record};
+use reference::{Point, Record, Version};
 
 use super::{melds, pieces};
 use crate::Case;
@@ -38,21 +38,27 @@ fn sizes() -> Vec<Case> {
             (1, 4),
             &[record(0, &[]), record(1, &[])],
         ),
-        melds(
+        pieces(
             "record-64-points",
-            "64 points refused, or 65 taken.",
+            "64 points refused, or 65 taken, in version 1.",
             (64, 4),
-            &[reads(0, &keys[..64]), reads(0, &keys)],
+            &[
+                &reads(0, &keys[..64]).to_bytes(),
+                &reads(0, &keys).to_bytes_in(Version::One),
+            ],
         ),
-        melds(
+        pieces(
             "record-8-scans",
-            "8 scans refused, or 9 taken.",
+            "8 scans refused, or 9 taken, in version 1.",
             (1, 4),
-            &[scans(&ranges[..8]), scans(&ranges)],
+            &[
+                &scans(&ranges[..8]).to_bytes(),
+                &scans(&ranges).to_bytes_in(Version::One),
+            ],
         ),
         melds(
             "record-longest",
-            "The longest record, 903 bytes after the length: 64 puts and 8 scans.",
+            "The longest record of version 1, 903 bytes after the length: 64 puts and 8 scans.",
             (64, 4),
             &[scanning(0, &puts, &ranges[..8]), record(1, &[])],
         ),
@@ -63,7 +69,7 @@ fn fields() -> Vec<Case> {
     vec![
         pieces(
             "record-version",
-            "The version not looked at: 0, 2 and 255 are malformed, 1 is not.",
+            "The version not looked at: with nothing in the record 0, 2 and 255 are malformed, 1 is not.",
             (1, 4),
             &[
                 &body(&[0, 0, 0, 0, 0, 0, 0]),

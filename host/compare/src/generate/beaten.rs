@@ -4,6 +4,7 @@
 use reference::program::join;
 use reference::random::Random;
 use reference::record::{MOST_POINTS, MOST_SCANS};
+use reference::version::{MOST_POINTS_OF_ONE, MOST_SCANS_OF_ONE};
 use reference::{Limits, Point, Record, Scan, State};
 
 use super::ending;
@@ -59,12 +60,16 @@ fn beaten(profile: &Profile, state: &State, random: &mut Random) -> Record {
         false => random.pick(&hot),
     };
     let touch = random.below(3);
-    let mut keys = cold_below(target, &hot, MOST_POINTS - 1, random);
+    let (most_points, most_scans) = match random.below(8) {
+        0 => (MOST_POINTS, MOST_SCANS),
+        _ => (MOST_POINTS_OF_ONE, MOST_SCANS_OF_ONE),
+    };
+    let mut keys = cold_below(target, &hot, most_points - 1, random);
     keys.extend((touch != 1).then_some(target));
-    keys.extend(above(target, MOST_POINTS - keys.len(), profile, random));
-    let mut lows = cold_below(target, &hot, MOST_SCANS - 1, random);
+    keys.extend(above(target, most_points - keys.len(), profile, random));
+    let mut lows = cold_below(target, &hot, most_scans - 1, random);
     lows.extend((touch != 0).then_some(target));
-    lows.extend(above(target, MOST_SCANS - lows.len(), profile, random));
+    lows.extend(above(target, most_scans - lows.len(), profile, random));
     Record {
         snapshot,
         points: keys
@@ -83,7 +88,8 @@ fn cold_below(target: u32, hot: &[u32], most: usize, random: &mut Random) -> Vec
         1 => most,
         _ => random.below(most + 1),
     };
-    let cold = (0..target).rev().filter(|key| !hot.contains(key));
+    let cold = (0..target).rev();
+    let cold = cold.filter(|key| hot.binary_search(key).is_err());
     let mut keys: Vec<u32> = cold.take(count).collect();
     keys.reverse();
     keys

@@ -29,7 +29,7 @@ pub fn bad_start(random: &mut Random) -> Vec<u8> {
 
 /// Ends at the edges of R14: a length, and how many bytes stand behind it. Lengths that
 /// can be and cannot, with two bytes left and with three, one byte too few, and all there.
-const EDGES: [(u16, usize); 14] = [
+const EDGES: [(u16, usize); 19] = [
     (0, 0),
     (6, 0),
     (6, 5),
@@ -40,8 +40,13 @@ const EDGES: [(u16, usize); 14] = [
     (903, 902),
     (903, 903),
     (904, 1),
-    (904, 903),
     (904, 904),
+    (13_833, 0),
+    (13_833, 13_832),
+    (13_833, 13_833),
+    (13_834, 0),
+    (13_834, 1),
+    (13_834, 13_834),
     (u16::MAX, 20),
     (u16::MAX, 65_535),
 ];
@@ -91,7 +96,7 @@ fn with_length_field(log: &[u8], random: &mut Random) -> Vec<u8> {
     let (parts, _) = parts(log);
     let count = random.below(parts.len().max(1));
     let place: usize = parts[..count].iter().map(|part| part.len()).sum();
-    let length: u16 = random.pick(&[0, 6, 7, 8, 256, 902, 903, 904, 1_024, u16::MAX]);
+    let length: u16 = random.pick(&[0, 6, 7, 8, 256, 903, 904, 1_024, 13_833, 13_834, u16::MAX]);
     let mut log = log.to_vec();
     if let Some(field) = log.get_mut(place..place + 2) {
         field.copy_from_slice(&length.to_be_bytes());

@@ -17,6 +17,7 @@ use reference::log::parts;
 use reference::program::{join, split, FULL_N};
 use reference::random::Random;
 use reference::record::{with_length, MOST_LENGTH, MOST_POINTS, MOST_SCANS};
+use reference::version::{MOST_POINTS_OF_ONE, MOST_SCANS_OF_ONE};
 use reference::{Limits, Point, Record, Scan, State};
 
 use crate::trial::Trial;
@@ -37,8 +38,8 @@ pub fn input(seed: u64) -> Vec<u8> {
     )
 }
 
-/// The input of a seed for the page form. One seed in ten has the longest records
-/// there are, and one in ten the edges of R14 at its end, one after the other.
+/// The input of a seed for the page form. One seed in ten has the longest records of
+/// both versions, and one in ten the edges of R14 at its end, one after the other.
 pub fn paged_input(seed: u64) -> Vec<u8> {
     match seed % 10 {
         4 => at_an_edge(seed),
@@ -88,29 +89,24 @@ pub fn in_parts(seed: u64) -> Vec<Trial> {
     cuts.into_iter().map(trial).collect()
 }
 
-/// A few records of 905 bytes, well formed and not, among records of 9 bytes.
+/// A few of the longest records of either version, well formed and not, among records of
+/// 9 bytes.
 fn longest_records(seed: u64) -> Vec<u8> {
     let mut random = Random::new(seed);
     let mut log = Vec::new();
     for snapshot in 0..1 + random.between(0, 9) {
-        let mut record = Record {
+        let nothing = Record {
             snapshot,
             ..Record::default()
         };
-        let bytes = match random.below(5) {
-            0 | 1 => record.to_bytes(),
-            2 => with_length(&[random.pick(&[0, 1]); MOST_LENGTH]),
-            _ => {
-                let (key, step) = (random.between(0, 200), random.between(1, 3));
-                let keys = (0..MOST_POINTS as u32).map(|index| key + index * step);
-                record.points = keys.map(|key| Point::put(key, 5)).collect();
-                let scan = |low| Scan { low, high: low + 7 };
-                let scans = (0..MOST_SCANS as u32).map(|index| scan(index * 100));
-                record.scans = scans.collect();
-                record.to_bytes()
-            }
-        };
-        log.extend(bytes);
+        log.extend(match random.below(10) {
+            0..=3 => nothing.to_bytes(),
+            4 => with_length(&[random.pick(&[0, 1, 2]); 903]),
+            5 => with_length(&vec![1; random.pick(&[904, 904, MOST_LENGTH])]),
+            6..=7 => full_record(snapshot, MOST_POINTS_OF_ONE, MOST_SCANS_OF_ONE, &mut random),
+            8 => full_record(snapshot, MOST_POINTS_OF_ONE + 1, 0, &mut random),
+            _ => full_record(snapshot, MOST_POINTS, MOST_SCANS, &mut random),
+        });
     }
     let profile = Profile {
         edges: false,
@@ -120,6 +116,24 @@ fn longest_records(seed: u64) -> Vec<u8> {
         log = ending::perhaps_spoiled(log, &profile, &mut random);
     }
     join(200, random.between(1, 12), &log)
+}
+
+/// A record of so many points and scans, all of them puts or none.
+fn full_record(snapshot: u32, points: usize, scans: usize, random: &mut Random) -> Vec<u8> {
+    let (key, step) = (random.between(0, 200), random.between(1, 3));
+    let keys = (0..points as u32).map(|index| key + index * step);
+    let put = random.percent(70);
+    let point = |key| match put {
+        true => Point::put(key, 5),
+        false => Point::read(key),
+    };
+    let scan = |low| Scan { low, high: low + 7 };
+    let record = Record {
+        snapshot,
+        points: keys.map(point).collect(),
+        scans: (0..scans as u32).map(|index| scan(index * 100)).collect(),
+    };
+    record.to_bytes()
 }
 
 /// The input of a seed for the program at full size: pools above 1,000 keys. One
@@ -138,14 +152,16 @@ pub fn full_input(seed: u64) -> Vec<u8> {
     join(profile.n, profile.z, &log)
 }
 
-/// 65,536 keys, 64 a record; then one that is kept, one too many, one deleted,
-/// and the first again.
+/// 65,536 keys, one half of them in records of 64 and the other in records of 1,024; then
+/// one that is kept, one too many, one deleted, and the first again.
 fn brimful(random: &mut Random) -> Vec<u8> {
     let step = random.pick(&[1, 3, 1_000, 65_535]);
     let keys: Vec<u32> = (0..=FULL_N).map(|index| index.wrapping_mul(step)).collect();
     let (kept, new) = keys.split_at(FULL_N as usize);
     let puts = |keys: &[u32]| keys.iter().map(|&key| Point::put(key, 7)).collect();
-    let mut points: Vec<Vec<Point>> = kept.chunks(MOST_POINTS).map(puts).collect();
+    let (front, back) = kept.split_at(kept.len() / 2);
+    let mut points: Vec<Vec<Point>> = front.chunks(MOST_POINTS_OF_ONE).map(puts).collect();
+    points.extend(back.chunks(MOST_POINTS).map(puts));
     points.push(puts(&kept[..1]));
     points.push(puts(new));
     points.push(vec![Point::delete(kept[1])]);

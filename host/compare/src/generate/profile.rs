@@ -29,8 +29,10 @@ pub struct Profile {
     pub malformed: usize,
     /// Records with nothing in them and snapshot p.
     pub idle: usize,
-    /// Records as full as they can be.
+    /// Records as full as version 1 has them.
     pub full: usize,
+    /// Records with counts at the edges of both versions, up to 1,024 points and 64 scans.
+    pub larger: usize,
     /// Logs with a spoiled end.
     pub spoiled: usize,
     /// Is a spoiled end at an edge of R14, three times in four?
@@ -41,13 +43,14 @@ impl Profile {
     /// A profile; tiny pools most often, since there the edges meet.
     pub fn choose(random: &mut Random) -> Profile {
         match random.below(100) {
-            0..=29 => Profile::tiny(random),
-            30..=51 => Profile::small(random),
-            52..=66 => Profile::tombstones(random),
-            67..=75 => Profile::wide(random),
-            76..=81 => Profile::fullest(random),
-            82..=89 => Profile::malformed(random),
-            90..=93 => Profile::spoiled_end(random),
+            0..=23 => Profile::tiny(random),
+            24..=28 => Profile::larger(random),
+            29..=49 => Profile::small(random),
+            50..=64 => Profile::tombstones(random),
+            65..=73 => Profile::wide(random),
+            74..=79 => Profile::fullest(random),
+            80..=87 => Profile::malformed(random),
+            88..=93 => Profile::spoiled_end(random),
             94..=97 => Profile::sleepy(random),
             _ => Profile::longest_zone(random),
         }
@@ -70,6 +73,7 @@ impl Profile {
             malformed: 3,
             idle: 3,
             full: 0,
+            larger: 0,
             spoiled: 8,
             edges: false,
         }
@@ -143,6 +147,27 @@ impl Profile {
             scans: 30,
             current: 75,
             full: 60,
+            larger: 8,
+            ..Profile::tiny(random)
+        }
+    }
+
+    /// A few records at the edges of both versions, in pools that have room for some of them.
+    fn larger(random: &mut Random) -> Profile {
+        let n = random.pick(&[65, 256, 999, 1_000]);
+        let count = 70 + random.below(3_000);
+        Profile {
+            n,
+            z: random.between(1, 12),
+            keys: universe(count, random),
+            records: 2 + random.below(12),
+            points: 4,
+            puts: random.pick(&[2, 20, 80]),
+            deletes: 5,
+            scans: 50,
+            current: 35,
+            malformed: 35,
+            larger: 50,
             ..Profile::tiny(random)
         }
     }

@@ -1,28 +1,46 @@
 //! One record for the state so far.
 
 use reference::random::Random;
-use reference::record::{MOST_POINTS, MOST_SCANS};
+use reference::version::{MOST_POINTS_OF_ONE, MOST_SCANS_OF_ONE};
 use reference::{Point, Record, Scan, State};
 
 use super::profile::Profile;
 
+/// Numbers of points at the edges of both versions, and where a byte is over.
+const POINTS: [usize; 14] = [
+    0, 1, 63, 64, 64, 65, 65, 66, 255, 256, 257, 512, 1_023, 1_024,
+];
+
+/// Numbers of scans at the edges of both versions.
+const SCANS: [usize; 12] = [0, 0, 0, 0, 1, 7, 8, 8, 9, 10, 63, 64];
+
 /// A record that keeps the rules, aimed at what the state makes interesting.
 pub fn make(profile: &Profile, state: &State, random: &mut Random) -> Record {
-    let full = random.percent(profile.full);
-    let points = match full {
-        true => MOST_POINTS,
-        false => random.below(profile.points + 1),
-    };
-    let scans = match random.percent(profile.scans) {
-        false => 0,
-        true if full || random.percent(10) => MOST_SCANS,
-        true => 1 + random.below(2),
-    };
+    let (points, scans) = counts(profile, random);
     Record {
         snapshot: snapshot(profile, state, random),
         points: self::points(points, profile, state, random),
         scans: self::scans(scans, profile, state, random),
     }
+}
+
+/// How many points and scans: mostly a few, now and then as many as version 1 has, or
+/// at the edges of both versions.
+fn counts(profile: &Profile, random: &mut Random) -> (usize, usize) {
+    if profile.larger > 0 && random.percent(profile.larger) {
+        return (random.pick(&POINTS), random.pick(&SCANS));
+    }
+    let full = random.percent(profile.full);
+    let points = match full {
+        true => MOST_POINTS_OF_ONE,
+        false => random.below(profile.points + 1),
+    };
+    let scans = match random.percent(profile.scans) {
+        false => 0,
+        true if full || random.percent(10) => MOST_SCANS_OF_ONE,
+        true => 1 + random.below(2),
+    };
+    (points, scans)
 }
 
 /// p, or a little below, or around p − Z, or around p, or anything.
@@ -67,10 +85,10 @@ fn key(profile: &Profile, state: &State, random: &mut Random) -> u32 {
     }
 }
 
-/// At most so many points, keys rising.
+/// At most so many points, keys rising; as many as that where there are 64 or more.
 fn points(count: usize, profile: &Profile, state: &State, random: &mut Random) -> Vec<Point> {
     let mut keys: Vec<u32> = (0..count).map(|_| key(profile, state, random)).collect();
-    if count == MOST_POINTS {
+    if count >= MOST_POINTS_OF_ONE {
         // Fill up to the full number with neighbours.
         let start = random.pick(&profile.keys);
         keys.extend((0..2 * count as u32).map(|index| start.wrapping_add(index)));
@@ -101,13 +119,14 @@ fn payload(random: &mut Random) -> u64 {
     }
 }
 
-/// At most so many scans, each above the one before it.
+/// At most so many scans, each above the one before it; as many as that where there are
+/// eight or more.
 fn scans(count: usize, profile: &Profile, state: &State, random: &mut Random) -> Vec<Scan> {
     if count == 1 && random.percent(15) {
         return vec![one_wide_scan(profile, state, random)];
     }
     let mut lows: Vec<u32> = (0..count).map(|_| key(profile, state, random)).collect();
-    if count == MOST_SCANS {
+    if count >= MOST_SCANS_OF_ONE {
         let start = random.pick(&profile.keys);
         lows.extend((0..count as u32).map(|index| start.wrapping_add(index)));
     }

@@ -19,7 +19,7 @@ pub fn sizes(log: &[u8], random: &mut Random) -> Vec<usize> {
         3..=4 => beside_ends(log, random),
         5 => any(log, &[1, 2, 3], random),
         6 => any(log, &[1, 2, 9, 40], random),
-        _ => any(log, &[1, 9, 100, 905, 906, 2_000], random),
+        _ => any(log, &[1, 9, 100, 905, 906, 2_000, 13_835], random),
     };
     if random.percent(40) {
         let share = random.pick(&[1, 10, 50]);

@@ -217,6 +217,12 @@ impl Explainer {
             (Some(point), _) => (point, 0),
             (None, scan) => (0, scan.unwrap_or(0)),
         };
+        match self.mistake {
+            Some(ReasonMistake::PointInAByte) => told.point %= 256,
+            Some(ReasonMistake::PointsUpTo64) => told.point = told.point.min(64),
+            Some(ReasonMistake::ScansUpTo8) => told.scan = told.scan.min(8),
+            _ => {}
+        }
         let low = scan_over(record, told.key).map(|index| record.scans[index].0);
         if point.is_none() && self.has(ReasonMistake::ScanLowTold) {
             told.key = low.unwrap_or(told.key);
@@ -238,9 +244,8 @@ impl Explainer {
         };
         let counted = |key: u32| {
             let any = self.has(ReasonMistake::OldRewrittenLost);
-            let mut entries = self.pool.entries.iter();
-            let there = entries.any(|entry| entry.key == key && (any || stays(entry)));
-            there && !self.has(ReasonMistake::CountedTwice)
+            let entry = self.pool.entry(key);
+            entry.is_some_and(|entry| any || stays(entry)) && !self.has(ReasonMistake::CountedTwice)
         };
         let needs = |point: &&(u8, u32, u64)| match (point.0, self.mistake) {
             (_, Some(ReasonMistake::WrittenNotCounted)) => false,
@@ -262,11 +267,15 @@ impl Explainer {
 
 /// The place of the point with this key.
 fn point_with(record: &Fields, key: u32) -> Option<usize> {
-    record.points.iter().position(|point| point.1 == key)
+    record
+        .points
+        .binary_search_by_key(&key, |point| point.1)
+        .ok()
 }
 
 /// The place of the scan that covers this key.
 fn scan_over(record: &Fields, key: u32) -> Option<usize> {
-    let covers = |scan: &(u32, u32)| scan.0 <= key && key <= scan.1;
-    record.scans.iter().position(covers)
+    let place = record.scans.partition_point(|scan| scan.1 < key);
+    let covers = |scan: &(u32, u32)| scan.0 <= key;
+    record.scans.get(place).is_some_and(covers).then_some(place)
 }

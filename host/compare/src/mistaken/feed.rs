@@ -4,7 +4,6 @@ use reference::pages::{cut, line};
 use reference::{Fed, Said};
 
 pub use super::feeder::Feeder;
-use super::feeder::CARRY;
 use super::record::limits;
 
 mistakes! {
@@ -17,7 +16,11 @@ mistakes! {
         RestCarried: "the bytes behind a decided record are carried at once",
         AllAtOnce: "all records of a part are decided in one call",
         CountTrusted: "a carried count is trusted",
-        CarrySizeTrusted: "a carry of more than 905 bytes is taken",
+        CarrySizeTrusted: "a carry of more than 13,835 bytes is taken",
+        CarryOfBefore: "the carry has 905 bytes",
+        LengthOfBefore: "a length above 903 is impossible, as before there was version 2",
+        LengthNotMost: "a length of 13,833 is impossible",
+        LengthAboveTaken: "a length of 13,834 can be",
         ImpossibleNotCarried: "an impossible length may not be carried",
         ImpossibleLate: "an impossible length is said only when the log is over",
         ImpossibleNotTaken: "the bytes of an impossible length are not taken",
@@ -80,7 +83,7 @@ pub fn lines(mistake: Option<FeedMistake>, input: &[u8], sizes: &[usize]) -> Str
     let Some((limits, log)) = limits(1_000, input) else {
         return "9\n".to_string();
     };
-    let mut feeder = Feeder::new(mistake, limits, vec![0; CARRY]);
+    let mut feeder = Feeder::new(mistake, limits, vec![0; Feeder::carry_bytes(mistake)]);
     let mut text = String::new();
     let mut carried = 0;
     for part in cut(log, sizes) {

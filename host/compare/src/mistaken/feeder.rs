@@ -7,9 +7,6 @@ use reference::{Answer, Fed, Said};
 use super::feed::FeedMistake;
 use super::meld::Pool;
 
-/// The bytes of a carry.
-pub(super) const CARRY: usize = 905;
-
 /// A feeder: pool and carry, and what was said last.
 pub struct Feeder {
     mistake: Option<FeedMistake>,
@@ -50,6 +47,30 @@ impl Feeder {
         self.pool.as_ref().map(|pool| pool.p)
     }
 
+    /// The bytes of a carry.
+    pub fn carry_bytes(mistake: Option<FeedMistake>) -> usize {
+        match mistake {
+            Some(FeedMistake::CarryOfBefore) => 905,
+            _ => 13_835,
+        }
+    }
+
+    /// The bytes of this one's carry.
+    fn room(&self) -> usize {
+        Feeder::carry_bytes(self.mistake)
+    }
+
+    /// Can a record have this length?
+    fn can_be(&self, length: usize) -> bool {
+        let most = match self.mistake {
+            Some(FeedMistake::LengthOfBefore) => 903,
+            Some(FeedMistake::LengthNotMost) => 13_832,
+            Some(FeedMistake::LengthAboveTaken) => 13_834,
+            _ => 13_833,
+        };
+        (7..=most).contains(&length)
+    }
+
     fn has(&self, mistake: FeedMistake) -> bool {
         self.mistake == Some(mistake)
     }
@@ -61,7 +82,7 @@ impl Feeder {
         }
         let carried = match part {
             [] if self.has(FeedMistake::EmptyDropsCarried) && !over => 0,
-            _ => carried.min(CARRY),
+            _ => carried.min(self.room()),
         };
         if self.pool.is_none() && self.has(FeedMistake::UnfitFirst) {
             return refused(Answer::UnfitPool, carried);
@@ -71,9 +92,7 @@ impl Feeder {
             return self.rest(carried, part, over);
         }
         match self.length(carried, part) {
-            Some(length) if !(7..=903).contains(&length) => {
-                self.impossible(length, carried, part, over)
-            }
+            Some(length) if !self.can_be(length) => self.impossible(length, carried, part, over),
             Some(length) => {
                 let missing = (length + 2).saturating_sub(carried);
                 let late = usize::from(self.has(FeedMistake::LastByteLate));
@@ -105,20 +124,20 @@ impl Feeder {
 
     /// Is this first byte taken for one that no length begins with?
     fn begins_none(&self, first: u8) -> bool {
-        self.has(FeedMistake::FirstByteJudged) && first > 3
+        self.has(FeedMistake::FirstByteJudged) && first > 0x36
     }
 
     /// May this carry and count be?
     fn takes(&self, carried: usize) -> bool {
         let size = self.carry.len();
-        if size < CARRY || size > CARRY && !self.has(FeedMistake::CarrySizeTrusted) {
+        if size < self.room() || size > self.room() && !self.has(FeedMistake::CarrySizeTrusted) {
             return false;
         }
         if self.has(FeedMistake::CountTrusted) || carried < 2 {
             return true;
         }
         let length = usize::from(self.carry[0]) << 8 | usize::from(self.carry[1]);
-        match (7..=903).contains(&length) {
+        match self.can_be(length) {
             true => carried < length + 2,
             false => carried == 2 && !self.has(FeedMistake::ImpossibleNotCarried),
         }
@@ -179,6 +198,9 @@ impl Feeder {
     /// The record of `size` bytes is in.
     fn decided(&mut self, size: usize, carried: usize, part: &[u8]) -> Fed {
         let missing = size.saturating_sub(carried);
+        if carried > 0 && size > self.room() {
+            return refused(Answer::OutputShort, carried);
+        }
         if self.pool.is_none() {
             if self.has(FeedMistake::UnfitCarries) {
                 self.put(carried, &part[..missing]);
@@ -234,12 +256,12 @@ impl Feeder {
                 self.put(0, rest);
                 Fed {
                     taken: part.len(),
-                    carried: rest.len().min(CARRY),
+                    carried: rest.len().min(self.room()),
                     ..fed
                 }
             }
             Some(FeedMistake::AllAtOnce) => match self.length(0, rest) {
-                Some(length) if (7..=903).contains(&length) && rest.len() >= length + 2 => {
+                Some(length) if self.can_be(length) && rest.len() >= length + 2 => {
                     let next = self.decided(length + 2, 0, rest);
                     Fed {
                         taken: fed.taken + next.taken,
@@ -277,6 +299,9 @@ impl Feeder {
             true => 0,
             false => carried,
         };
+        if from + part.len() > self.room() && self.has(FeedMistake::CarryOfBefore) {
+            return refused(Answer::OutputShort, carried);
+        }
         self.put(from, part);
         let looks = match self.has(FeedMistake::MoreHasLooks) {
             true => self.looks,
@@ -284,7 +309,7 @@ impl Feeder {
         };
         Fed {
             looks,
-            ..more(part.len(), (from + part.len()).min(CARRY))
+            ..more(part.len(), (from + part.len()).min(self.room()))
         }
     }
 

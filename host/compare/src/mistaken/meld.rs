@@ -41,6 +41,12 @@ impl Pool {
         self.mistake == Some(mistake)
     }
 
+    /// What is kept of a key.
+    pub(super) fn entry(&self, key: u32) -> Option<&Entry> {
+        let place = self.entries.binary_search_by_key(&key, |entry| entry.key);
+        place.ok().map(|place| &self.entries[place])
+    }
+
     /// The answer, the looks and the position of the next record.
     pub fn meld(&mut self, part: &[u8]) -> (u8, u32, u32) {
         let v = self.p + 1;
@@ -77,7 +83,7 @@ impl Pool {
         self.decide_admitted(&record)
     }
 
-    fn ahead(&self, s: u32) -> bool {
+    pub(super) fn ahead(&self, s: u32) -> bool {
         match self.mistake {
             Some(Mistake::AheadAtP) => s >= self.p && s > 0,
             Some(Mistake::AheadLate) => s > self.p + 1,
@@ -85,7 +91,7 @@ impl Pool {
         }
     }
 
-    fn old(&self, s: u32) -> bool {
+    pub(super) fn old(&self, s: u32) -> bool {
         let lag = self.p.saturating_sub(s);
         match self.mistake {
             Some(Mistake::OldAtZ) => lag >= self.z,

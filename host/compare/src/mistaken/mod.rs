@@ -3,7 +3,7 @@
 //! Without a mistake it is a third way to the same answers: it decides by the
 //! kept positions and in the conflict walk itself, where the reference scans
 //! the committed writes. Module `feed` is the page form in this way, module `reason`
-//! the reasons. All are for tests only.
+//! the reasons, module `writer` the writer and refresh. All are for tests only.
 
 /// An enum of mistakes with their words.
 macro_rules! mistakes {
@@ -44,6 +44,7 @@ pub mod reason;
 mod record;
 mod room;
 mod walk;
+pub mod writer;
 
 use meld::Pool;
 use record::{next_part, Next};
@@ -68,14 +69,16 @@ mistakes! {
         LengthAloneImpossible: "a length with nothing behind it is impossible, whatever it says",
         LengthSixTaken: "length 6 is handed out",
         LengthSevenRefused: "length 7 is impossible",
-        LengthNotMost: "length 903 is impossible",
-        LengthAboveTaken: "length 904 is handed out",
+        LengthNotMost: "length 13,833 is impossible",
+        LengthAboveTaken: "length 13,834 is handed out",
+        LengthOfBefore: "a length above 903 is impossible, as before there was version 2",
+        LengthOfVersionOne: "a length above 903 is impossible in version 1",
         ImpossibleTorn: "an impossible length is a torn log",
         ImpossibleShortTorn: "an impossible length that runs past the end is a torn log",
         ImpossibleWholeTorn: "an impossible length whose bytes are there is a torn log",
         ImpossibleAloneTorn: "an impossible length with nothing behind it is a torn log",
         LengthBelowTorn: "a length below 7 is a torn log",
-        LengthAboveTorn: "a length above 903 is a torn log",
+        LengthAboveTorn: "a length above 13,833 is a torn log",
         ZeroIsEnd: "length 0 is the end",
         ErasedIsEnd: "length 65,535 is the end, as if erased flash were",
         MalformedTorn: "a malformed record is a torn log",
@@ -83,10 +86,31 @@ mistakes! {
         LittleEndianClamped: "the snapshot is read little-endian and clamped to p",
         LittleEndian: "the snapshot is read little-endian",
         VersionIgnored: "the version is not looked at",
-        PointsAboveTaken: "65 points are taken",
-        PointsFullRefused: "64 points are refused",
-        ScansAboveTaken: "9 scans are taken",
-        ScansFullRefused: "8 scans are refused",
+        VersionThreeTaken: "version 3 is taken for version 2",
+        VersionTwoRefused: "version 2 is malformed",
+        RuleOfBefore: "version 2 is malformed, and a length above 903 impossible: the rule of before",
+        VersionTwoAlwaysTaken: "version 2 is taken whatever the counts",
+        VersionTwoFromFullPoints: "version 2 is taken with 64 points",
+        VersionTwoFromFullScans: "version 2 is taken with 8 scans",
+        VersionTwoEmptyTaken: "version 2 is taken with nothing in it",
+        VersionTwoNeedsBoth: "version 2 is taken only with more points and more scans",
+        VersionTwoPointsRefused: "65 points are refused in version 2",
+        VersionTwoScansRefused: "9 scans are refused in version 2",
+        VersionOneAlwaysTaken: "version 1 is taken whatever the counts",
+        VersionOnePointsTaken: "65 points are taken in version 1",
+        VersionOneScansTaken: "9 scans are taken in version 1",
+        VersionOnePointsRefused: "64 points are refused in version 1",
+        VersionOneScansRefused: "8 scans are refused in version 1",
+        CountsLittleEndian: "counts of two bytes are read little-endian",
+        CountsOfOneByte: "counts of one byte are read in version 2",
+        CountsOfTwoBytes: "counts of two bytes are read in version 1",
+        CountsLastByte: "only the last byte of a count is looked at",
+        PointsAboveTaken: "1,025 points are taken",
+        PointsFullRefused: "1,024 points are refused",
+        ScansAboveTaken: "65 scans are taken",
+        ScansFullRefused: "64 scans are refused",
+        OrderOfFirstPoints: "keys are held to their order up to the 64th point only",
+        OrderOfFirstScans: "scans are held to their order up to the 8th only",
         KindsAnyTaken: "an unknown kind is a read",
         KeysEqualTaken: "equal point keys are taken",
         KeysFallingTaken: "falling point keys are taken",
@@ -112,6 +136,8 @@ mistakes! {
         PutsDoNotConflict: "only reads and scans are looked at, not puts",
         DeletesDoNotConflict: "deletes are not looked at",
         ScansLeftOut: "scans are not looked at",
+        LaterPointsLeftOut: "points behind the 64th are not looked at",
+        LaterScansLeftOut: "scans behind the 8th are not looked at",
         ScanLowLeftOut: "a scan does not cover its low end",
         ScanHighLeftOut: "a scan does not cover its high end",
         TombstonesDoNotConflict: "a deleted key is no conflict",
@@ -121,6 +147,7 @@ mistakes! {
         AbsentDeleteLost: "a delete of an absent key is no write",
         DeleteRemoves: "a delete takes the key out at once",
         ZeroPutDeletes: "a put of payload 0 is a delete",
+        LaterWritesLost: "writes behind the 64th point are not stored",
         RoomForOneMore: "N + 1 keys fit",
         RoomForOneLess: "N keys do not fit",
         TombstonesNeedNoRoom: "young tombstones are not counted",

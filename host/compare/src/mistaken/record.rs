@@ -47,15 +47,14 @@ pub fn next_part(mistake: Option<Mistake>, rest: &[u8]) -> Next<'_> {
         [] => return Next::End,
         [_] if has(Mistake::LastByteIgnored) => return Next::End,
         [_] if has(Mistake::LastByteImpossible) => return Next::Impossible,
-        [byte] if has(Mistake::LastByteJudged) && *byte > 3 => return Next::Impossible,
+        [byte] if has(Mistake::LastByteJudged) && *byte > 0x36 => return Next::Impossible,
         [_] => return Next::Torn,
         [high, low, ..] => (*high, *low),
     };
     let length = usize::from(high) * 256 + usize::from(low);
     let least = 7 + usize::from(has(Mistake::LengthSevenRefused))
         - usize::from(has(Mistake::LengthSixTaken));
-    let most = 903 + usize::from(has(Mistake::LengthAboveTaken))
-        - usize::from(has(Mistake::LengthNotMost));
+    let most = most_length(mistake, rest.get(2));
     if length < least || length > most {
         return impossible(mistake, length, rest.len() - 2);
     }
@@ -69,6 +68,17 @@ pub fn next_part(mistake: Option<Mistake>, rest: &[u8]) -> Next<'_> {
     }
 }
 
+/// The largest length, with this version behind it if there is a byte.
+fn most_length(mistake: Option<Mistake>, version: Option<&u8>) -> usize {
+    match mistake {
+        Some(Mistake::LengthAboveTaken) => 13_834,
+        Some(Mistake::LengthNotMost) => 13_832,
+        Some(Mistake::LengthOfBefore | Mistake::RuleOfBefore) => 903,
+        Some(Mistake::LengthOfVersionOne) if version == Some(&1) => 903,
+        _ => 13_833,
+    }
+}
+
 /// What is said of a length that cannot be, with so many bytes behind it.
 fn impossible(mistake: Option<Mistake>, length: usize, behind: usize) -> Next<'static> {
     let torn = match mistake {
@@ -79,7 +89,7 @@ fn impossible(mistake: Option<Mistake>, length: usize, behind: usize) -> Next<'s
         Some(Mistake::ImpossibleWholeTorn) => behind >= length,
         Some(Mistake::ImpossibleAloneTorn) => behind == 0,
         Some(Mistake::LengthBelowTorn) => length < 7,
-        Some(Mistake::LengthAboveTorn) => length > 903,
+        Some(Mistake::LengthAboveTorn) => length > 13_833,
         _ => false,
     };
     match torn {
@@ -98,25 +108,87 @@ pub fn snapshot(mistake: Option<Mistake>, part: &[u8], p: u32) -> Option<u32> {
     })
 }
 
+/// How many bytes a count has in the version of this byte; none for no version.
+fn count_width(mistake: Option<Mistake>, version: u8) -> Option<usize> {
+    let has = |other| mistake == Some(other);
+    let two = match version {
+        _ if has(Mistake::VersionIgnored) => false,
+        1 => has(Mistake::CountsOfTwoBytes),
+        2 if has(Mistake::VersionTwoRefused) || has(Mistake::RuleOfBefore) => return None,
+        2 => !has(Mistake::CountsOfOneByte),
+        3 if has(Mistake::VersionThreeTaken) => true,
+        _ => return None,
+    };
+    Some(1 + usize::from(two))
+}
+
+/// A count of so many bytes at this place.
+fn count(mistake: Option<Mistake>, part: &[u8], at: usize, width: usize) -> Option<usize> {
+    let bytes = part.get(at..at + width)?;
+    let (first, last) = (usize::from(bytes[0]), usize::from(bytes[width - 1]));
+    Some(match (width, mistake) {
+        (1, _) | (_, Some(Mistake::CountsLastByte)) => last,
+        (_, Some(Mistake::CountsLittleEndian)) => last * 256 + first,
+        _ => first * 256 + last,
+    })
+}
+
+/// May a record of this version have so many points and scans?
+fn counts_fit(mistake: Option<Mistake>, version: u8, points: usize, scans: usize) -> bool {
+    let has = |other| mistake == Some(other);
+    let edge = |most: usize, above, below| most + usize::from(has(above)) - usize::from(has(below));
+    let most_points = edge(1_024, Mistake::PointsAboveTaken, Mistake::PointsFullRefused);
+    let most_scans = edge(64, Mistake::ScansAboveTaken, Mistake::ScansFullRefused);
+    if points > most_points || scans > most_scans {
+        return false;
+    }
+    if version == 1 || has(Mistake::VersionIgnored) {
+        let (taken, refused) = (
+            Mistake::VersionOnePointsTaken,
+            Mistake::VersionOnePointsRefused,
+        );
+        let points_fit = points <= edge(64, taken, refused);
+        let (taken, refused) = (
+            Mistake::VersionOneScansTaken,
+            Mistake::VersionOneScansRefused,
+        );
+        let scans_fit = scans <= edge(8, taken, refused);
+        return points_fit && scans_fit || has(Mistake::VersionOneAlwaysTaken);
+    }
+    let (refused, taken) = (
+        Mistake::VersionTwoPointsRefused,
+        Mistake::VersionTwoFromFullPoints,
+    );
+    let more_points = points > edge(64, refused, taken);
+    let (refused, taken) = (
+        Mistake::VersionTwoScansRefused,
+        Mistake::VersionTwoFromFullScans,
+    );
+    let more_scans = scans > edge(8, refused, taken);
+    match mistake {
+        Some(Mistake::VersionTwoAlwaysTaken) => true,
+        Some(Mistake::VersionTwoEmptyTaken) if points + scans == 0 => true,
+        Some(Mistake::VersionTwoNeedsBoth) => more_points && more_scans,
+        _ => more_points || more_scans,
+    }
+}
+
 /// The record of a part, or none if it is malformed.
 pub fn fields(mistake: Option<Mistake>, part: &[u8], p: u32) -> Option<Fields> {
     let has = |other| mistake == Some(other);
     let number = |at: usize| Some(u32::from_be_bytes(part.get(at..at + 4)?.try_into().ok()?));
     let length = u16::from_be_bytes(part.get(..2)?.try_into().ok()?);
-    if part.len() != usize::from(length) + 2
-        || (part.get(2)? != &1 && !has(Mistake::VersionIgnored))
-    {
+    if part.len() != usize::from(length) + 2 {
         return None;
     }
-    let (points, scans) = (usize::from(*part.get(7)?), usize::from(*part.get(8)?));
-    let most_points = 64 + usize::from(has(Mistake::PointsAboveTaken))
-        - usize::from(has(Mistake::PointsFullRefused));
-    let most_scans = 8 + usize::from(has(Mistake::ScansAboveTaken))
-        - usize::from(has(Mistake::ScansFullRefused));
-    if points > most_points || scans > most_scans {
+    let version = *part.get(2)?;
+    let width = count_width(mistake, version)?;
+    let points = count(mistake, part, 7, width)?;
+    let scans = count(mistake, part, 7 + width, width)?;
+    if !counts_fit(mistake, version, points, scans) {
         return None;
     }
-    let mut at = 9;
+    let mut at = 7 + 2 * width;
     let mut found = Fields {
         snapshot: snapshot(mistake, part, p)?,
         points: vec![],
@@ -160,6 +232,12 @@ fn keeps_rules(mistake: Option<Mistake>, found: &Fields) -> bool {
         Some(Mistake::ScansAnyOrderTaken) => true,
         _ => high < low,
     };
+    let ordered = |found: usize, mistake, first| match has(mistake) {
+        true => found.min(first),
+        false => found,
+    };
+    let points = ordered(found.points.len(), Mistake::OrderOfFirstPoints, 64);
+    let scans = ordered(found.scans.len(), Mistake::OrderOfFirstScans, 8);
     let one_key = |scan: &(u32, u32)| has(Mistake::ScanOneKeyRefused) && scan.0 == scan.1;
     let backwards = |scan: &(u32, u32)| !has(Mistake::ScanBackwardsTaken) && scan.0 > scan.1;
     let inside = |key: u32| {
@@ -170,13 +248,14 @@ fn keeps_rules(mistake: Option<Mistake>, found: &Fields) -> bool {
     };
     let overlap = has(Mistake::OverlapRefused) && found.points.iter().any(|point| inside(point.1));
     found.points.iter().all(|point| (1..=3).contains(&point.0))
-        && found.points.windows(2).all(|two| rises(two[0].1, two[1].1))
+        && found.points[..points]
+            .windows(2)
+            .all(|two| rises(two[0].1, two[1].1))
         && !found
             .scans
             .iter()
             .any(|scan| one_key(scan) || backwards(scan))
-        && found
-            .scans
+        && found.scans[..scans]
             .windows(2)
             .all(|two| follows(two[0].1, two[1].0))
         && !overlap

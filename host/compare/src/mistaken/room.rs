@@ -37,11 +37,7 @@ impl Pool {
             _ => !self.old_tombstone(entry),
         };
         let staying = self.entries.iter().filter(|entry| stays(entry)).count();
-        let kept = |key: u32| {
-            self.entries
-                .iter()
-                .any(|entry| entry.key == key && stays(entry))
-        };
+        let kept = |key: u32| self.entry(key).is_some_and(stays);
         let needed = staying + self.added(record, &kept);
         match self.mistake {
             Some(Mistake::RoomForOneMore) => needed <= self.n + 1,
@@ -53,7 +49,7 @@ impl Pool {
     /// The drop, then the writes.
     pub(super) fn store(&mut self, record: &Fields) {
         let v = self.p + 1;
-        let kept = |key: u32| self.entries.iter().any(|entry| entry.key == key);
+        let kept = |key: u32| self.entry(key).is_some();
         let together = self.entries.len() + self.added(record, &kept);
         let least = match self.mistake {
             Some(Mistake::DroppedAlways) => 0,
@@ -74,7 +70,11 @@ impl Pool {
                 .collect();
             self.entries.retain(|entry| !gone.contains(&entry.key));
         }
-        for &(kind, key, payload) in &record.points {
+        let stored = match self.mistake {
+            Some(Mistake::LaterWritesLost) => record.points.len().min(64),
+            _ => record.points.len(),
+        };
+        for &(kind, key, payload) in &record.points[..stored] {
             if kind == 1 && !self.has(Mistake::ReadsWrite) {
                 continue;
             }

@@ -44,21 +44,31 @@ impl Pool {
         self.walk(other, record, looks) || found
     }
 
-    /// Does the record name or scan anything from low to high?
+    /// Does the record name or scan anything from low to high? Its lists rise, some
+    /// mistakes apart.
     fn touches(&self, record: &Fields, low: u32, high: u32) -> bool {
         let seen = |kind: u8| match self.mistake {
             Some(Mistake::PutsDoNotConflict) => kind != 2,
             Some(Mistake::DeletesDoNotConflict) => kind != 3,
             _ => true,
         };
-        let named = |point: &(u8, u32, u64)| seen(point.0) && (low..=high).contains(&point.1);
         let scanned = |scan: &(u32, u32)| match self.mistake {
             Some(Mistake::ScansLeftOut) => false,
             Some(Mistake::ScanLowLeftOut) => scan.0 < high && low <= scan.1,
             Some(Mistake::ScanHighLeftOut) => scan.0 <= high && low < scan.1,
             _ => scan.0 <= high && low <= scan.1,
         };
-        record.points.iter().any(named) || record.scans.iter().any(scanned)
+        let (mut points, mut scans) = (&record.points[..], &record.scans[..]);
+        match self.mistake {
+            Some(Mistake::LaterPointsLeftOut) => points = &points[..points.len().min(64)],
+            Some(Mistake::LaterScansLeftOut) => scans = &scans[..scans.len().min(8)],
+            _ => {}
+        }
+        let points = &points[points.partition_point(|point| point.1 < low)..];
+        let scans = &scans[scans.partition_point(|scan| scan.1 < low)..];
+        let mut points = points.iter().take_while(|point| point.1 <= high);
+        let mut scans = scans.iter().take_while(|scan| scan.0 <= high);
+        points.any(|point| seen(point.0)) || scans.any(scanned)
     }
 
     /// A touched leaf above the snapshot is the conflict, some mistakes apart.

@@ -6,11 +6,13 @@
 pub mod raw;
 
 use emuparasol::{
-    Error, Point, Pool, Reason, Record, RecordBuffer, Records, Scan, Touch, MOST_RECORD,
+    Error, Point, Pool, Reason, Record, RecordBuffer, Records, Scan, Touch, MOST_POINTS,
+    MOST_RECORD, MOST_SCANS,
 };
 use reference::layout::state_of;
 use reference::program::split;
 use reference::{Answer, Kind, Limits, State};
+use std::sync::OnceLock;
 
 /// Elements before and behind each lent list; odd, so that bytes stand anywhere.
 const GUARD: usize = 33;
@@ -306,17 +308,24 @@ pub fn write(record: &Record<'_>, room: usize) -> (u8, Vec<u8>) {
     (answer, output)
 }
 
-/// A buffer that holds the fullest record: 64 points and 8 scans, no number 0.
-pub fn full_buffer() -> RecordBuffer {
-    let points: Vec<Point> = (1..=64).map(|key| Point::put(key, u64::MAX)).collect();
-    let scans: Vec<Scan> = (1..=8).map(|low| Scan { low, high: low }).collect();
+/// A buffer that holds the fullest record: 1,024 points and 64 scans, no number 0.
+pub fn full_buffer() -> Box<RecordBuffer> {
+    static FULL: OnceLock<Box<RecordBuffer>> = OnceLock::new();
+    FULL.get_or_init(filled).clone()
+}
+
+fn filled() -> Box<RecordBuffer> {
+    let keys = 1..=MOST_POINTS as u32;
+    let points: Vec<Point> = keys.map(|key| Point::put(key, u64::MAX)).collect();
+    let lows = 1..=MOST_SCANS as u32;
+    let scans: Vec<Scan> = lows.map(|low| Scan { low, high: low }).collect();
     let record = Record {
         snapshot: 77,
         points: &points,
         scans: &scans,
     };
     let mut output = [0; MOST_RECORD];
-    let mut buffer = RecordBuffer::new();
+    let mut buffer = Box::new(RecordBuffer::new());
     let written = record.write(&mut output).expect("room for any record");
     assert_eq!(written.len(), MOST_RECORD);
     assert_eq!(buffer.read(written), Ok(record));
