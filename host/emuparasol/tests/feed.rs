@@ -178,7 +178,7 @@ fn cut_at_every_byte() {
 fn in_parts_of_any_size() {
     let mut random = Random::new(21);
     let (mut whole, mut torn, mut impossible) = (0, 0, 0);
-    for (limits, log) in logs(0..60, 6_000) {
+    for (limits, log) in logs(0..120, 6_000) {
         let (expected, state) = walk(limits, &log);
         match expected.1 {
             END => whole += 1,
