@@ -60,7 +60,8 @@ int main(void) {
     }
     uint32_t points = words[0] == 'k' || words[0] == 'n' ? 1000 : words[0] == '6' ? 64 : words[0] == '8' ? 8 : 1;
     for (uint32_t i = 0; i < points; i++)
-        named[i] = key_of(N * i / points);
+        /* N * i / points, divided by constants alone: not every processor here divides by itself. */
+        named[i] = key_of(points == 1000 ? i : points == 64 ? N * i / 64 : points == 8 ? N * i / 8 : N * i);
     uint64_t size = puts_of(record, position, named, points);
     if (words[1] == 'S')
         stack(true);
