@@ -30,7 +30,6 @@ named-size-requires c κs = search needs
 enum-known-size : tie.Need-enum-known-size
 enum-known-size c = search needs
 
--- /work/main/target/rlib/record.rlib/interface/lang/src/answer.rt:7:32
 enum-told : tie.Need-enum-told
 enum-told c = search needs
 
