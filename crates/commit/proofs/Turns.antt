@@ -10,8 +10,8 @@ use lib.Seq.{drop-cons}
 use Rattle.record.specs.declared.point.Point.{Point}
 use Rattle.record.specs.declared.point.Point.the-variants.{Read, Put, Delete}
 use Rattle.rules.specs.State.{Entry}
-use Rattle.rules.specs.Footprint.{writesOf}
-use Rattle.rules.proofs.Stored.{writes-at}
+use Rattle.rules.specs.Footprint.{storedAt}
+use Rattle.rules.proofs.Written.{stored-at}
 use Rattle.pool.specs.Image.{Arrangement, Image}
 use Rattle.put.specs.declared.value.Value.{Value}
 use Rattle.put.specs.Values.{entryOf}
@@ -44,7 +44,7 @@ starts m kinds ks xs = record { within = omega arith; same = refl; halves = λ A
 -- all writes can be stored, for the arrangement that is asked for
 all-storable : (m kinds ks xs : List ℕ) (a : Applicable m kinds ks xs) → AllStorable (a .arrangement) (writesIn (a .arrangement .p) kinds ks xs)
 all-storable m kinds ks xs a =
-    record { started = a .written-at; sized = a .sized; at-p = λ e w. writes-at (a .arrangement .p) (pointsIn kinds ks xs) w; room = a .room }
+    record { started = a .written-at; sized = a .sized; at-p = λ e w. stored-at (a .arrangement .p) (pointsIn kinds ks xs) w; room = a .room }
 
 module _ (m₀ kinds ks xs m : List ℕ) (i : ℕ) (a : Applicable m₀ kinds ks xs) (g : Going m₀ kinds ks xs m i) (more : i < length ks) where
   point : Point
@@ -61,8 +61,8 @@ module _ (m₀ kinds ks xs m : List ℕ) (i : ℕ) (a : Applicable m₀ kinds ks
   unfolding pointsIn point
   here-is = rw (add-one, drop-cons kinds i 0 in-kinds, drop-cons ks i 0 more, drop-cons xs i 0 in-payloads)
 
-  rest-is : (v : ℕ) (q : Point) → q ≡ point → restIn v kinds ks xs i ≡ writesOf v (q ∷ pointsIn (drop (i + 1) kinds) (drop (i + 1) ks) (drop (i + 1) xs))
-  rest-is v q e = ap (writesOf v) (here-is ∙ ap (λ (z : Point). z ∷ pointsIn (drop (i + 1) kinds) (drop (i + 1) ks) (drop (i + 1) xs)) (sym e))
+  rest-is : (v : ℕ) (q : Point) → q ≡ point → restIn v kinds ks xs i ≡ storedAt v (q ∷ pointsIn (drop (i + 1) kinds) (drop (i + 1) ks) (drop (i + 1) xs))
+  rest-is v q e = ap (storedAt v) (here-is ∙ ap (λ (z : Point). z ∷ pointsIn (drop (i + 1) kinds) (drop (i + 1) ks) (drop (i + 1) xs)) (sym e))
 
   -- a point that writes nothing is passed over
   pub passed-over : (q : Point) (k : ℕ) → q ≡ pointFrom (getD kinds i 0) (getD ks i 0) (getD xs i 0) → q ≡ Read k → Going m₀ kinds ks xs m (i + 1)

@@ -1,4 +1,4 @@
--- Applying points to an arrangement (R22, R28): puts and deletes are stored at v, anything else is passed over.
+-- Applying points to an arrangement (R28): puts and deletes are stored at v, anything else is passed over. Which deletes write (R22) was found out before.
 -- Assumes nothing: these are definitions.
 use Prim.Native.Nat.{ℕ, _≤_}
 use mathlib.Core.Path.{_≡_}
@@ -11,7 +11,7 @@ use Rattle.record.specs.declared.point.Point.the-variants.{Read, Put, Delete}
 use Rattle.words.specs.Choice.{if_then_else_}
 use Rattle.rules.specs.State.{Entry}
 use Rattle.rules.specs.EntryFits.{EntryFits}
-use Rattle.rules.specs.Footprint.{writesOf}
+use Rattle.rules.specs.Footprint.{storedAt}
 use Rattle.rules.specs.Verdict.{storeAll}
 use Rattle.pool.specs.Image.{Arrangement, Image, stateOf}
 use Rattle.put.specs.declared.value.Value.{Value}
@@ -47,9 +47,9 @@ pub record AllStorable (A : Arrangement) (ws : List Entry) : Type 0 where
   pub at-p : (e : Entry) → Mem e ws → e .position ≡ A .p
   pub room : length (storeAll ws (stateOf A .kept)) ≤ A .N
 
--- the writes of three lists of points, at position v
+-- what three lists of points store, at position v; the writes of a record (R22), if its deletes that write nothing are reads in the lists
 abbrev pub writesIn : ℕ → List ℕ → List ℕ → List ℕ → List Entry
-writesIn v kinds ks xs = writesOf v (pointsIn kinds ks xs)
+writesIn v kinds ks xs = storedAt v (pointsIn kinds ks xs)
 
 -- the pool is fit and past position 0, the lists are equally long, and all writes fit their bytes and find room
 pub record Applicable (m kinds ks xs : List ℕ) : Type 0 where

@@ -14,7 +14,7 @@ use Rattle.record.specs.Record.{Rec, Valid, bytesOf, versionFor}
 use Rattle.record.specs.Parse.{firstPoint, headOk, parse}
 use Rattle.record.proofs.RoundTrip.{parse-bytesOf, valid-bytes}
 use Rattle.rules.specs.State.{State, fresh}
-use Rattle.rules.specs.Footprint.{reach, meets}
+use Rattle.rules.specs.Footprint.{reach, meets, writesOf}
 use Rattle.rules.specs.Verdict.{hits, refusalOr, store, storeAll, young, drops, apply, count, judge, verdict, next}
 use Rattle.rules.specs.Lookup.{lookup}
 use Rattle.rules.specs.Refresh.{refresh}
@@ -104,7 +104,7 @@ module _ (L : Library) where
 
   -- a record that says nothing commits in a new pool
   pub not-always-refuses : AlwaysRefuses L → ⊥
-  unfolding verdict judge reach meets hits refusalOr count store storeAll young drops apply
+  unfolding verdict judge reach meets writesOf hits refusalOr count store storeAll young drops apply
   not-always-refuses f =
       f new (bytesOf (nothing 0)) (new-means .image .bytes) (valid-bytes (nothing 0) valid-nothing)
       (ap (λ (x : Melded). x .answer) (melded new (fresh 1 1) new-means (nothing 0) valid-nothing .0))
@@ -132,7 +132,7 @@ module _ (L : Library) where
 
   -- a new pool has no payload of 10; after put 10 = 100 it is 100
   pub not-stores-nothing : StoresNothing L → ⊥
-  unfolding first lookup verdict judge reach meets hits refusalOr count store storeAll young drops apply next
+  unfolding first lookup verdict judge reach meets writesOf hits refusalOr count store storeAll young drops apply next
   not-stores-nothing f =
       let e : L .lookup first 10 ≡ L .lookup new 10 = f new (bytesOf (put 0 100)) 10 (new-means .image .bytes) (valid-bytes (put 0 100) valid-first) in
       let a : payload (L .lookup first 10) ≡ 100 = ap payload (sees first (next (fresh 1 1) (some (put 0 100))) 10 first-means) in
@@ -141,7 +141,7 @@ module _ (L : Library) where
 
   -- after put 10 = 5 at position 2 it is 5, where one that only advances still has 100
   pub not-only-first : OnlyFirst L → ⊥
-  unfolding first lookup verdict judge reach meets hits refusalOr count store storeAll young drops apply next
+  unfolding first lookup verdict judge reach meets writesOf hits refusalOr count store storeAll young drops apply next
   not-only-first f =
       let S : State = next (fresh 1 1) (some (put 0 100)) in
       let second : List ℕ = L .meld first (bytesOf (put 1 5)) .1 in
@@ -163,7 +163,7 @@ module _ (L : Library) where
 
   -- at position 1 the byte of weight 1 of its snapshot is 1, not 0
   pub not-copies : Copies L → ⊥
-  unfolding first lookup verdict judge reach meets hits refusalOr count store storeAll young drops apply next refresh leftBy bigEndian versionFor
+  unfolding first lookup verdict judge reach meets writesOf hits refusalOr count store storeAll young drops apply next refresh leftBy bigEndian versionFor
   not-copies f =
       let S : State = next (fresh 1 1) (some (put 0 100)) in
       let x = refreshed first S first-means (nothing 0) valid-nothing (replicate 9 0) nine in

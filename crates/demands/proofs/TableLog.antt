@@ -1,5 +1,5 @@
--- R44 on bytes: what a card says over the table's log.
--- The idea: the log's walk hands out the eleven records again (`joined-walks`), a card follows the rules over them (`pool-after-log`), and
+-- R44 and R55 on bytes: what a card says over the log of each table.
+-- The idea: the log's walk hands out the records again (`joined-walks`), a card follows the rules over them (`pool-after-log`), and
 -- what the rules say of them is computed (`table`).
 -- Assumes nothing.
 use Prim.Native.Nat.{ℕ, zero, suc, _+_, _≤_, _<_}
@@ -23,14 +23,14 @@ use Rattle.log.proofs.Walk.{joined-walks, walks-once}
 use Rattle.rules.specs.State.{State, keyIn, fresh, lastPosition}
 use Rattle.rules.specs.Verdict.{next}
 use Rattle.rules.specs.Log.{after}
-use Rattle.rules.specs.Table.{rows, bytesIn, recOf, Line, run}
+use Rattle.rules.specs.Table.{Row, rows, deleteRows, bytesIn, recOf, Line, run, Holds}
 use Rattle.rules.proofs.Positions.{next-p}
 use Rattle.rules.proofs.Tests.{left-of, right-of}
 use Rattle.rules.proofs.AllRows.{table}
 use Rattle.meld.specs.declared.melding.Melded.{Melded}
 use Rattle.meld.specs.Melds.{meldedOf}
 use Rattle.demands.specs.Runs.{verdicts, Whole}
-use Rattle.demands.specs.TableLog.{tableLog, linesFrom, TableRun}
+use Rattle.demands.specs.TableLog.{logOf, linesFrom, TableRun}
 use Rattle.demands.proofs.Following.{AllBytes, no-bytes, more-bytes}
 use Rattle.demands.proofs.Once.{record-sized}
 use Rattle.demands.proofs.Cards.{pool-after-log}
@@ -63,10 +63,6 @@ joined-bytes : {parts : List (List ℕ)} → AllBytes parts → Bytes (joined pa
 joined-bytes no-bytes = record { byte = λ i. omega arith }
 joined-bytes (more-bytes {bytes = s} {parts = ss} b bs) = bytes-append s (joined ss) b (joined-bytes bs)
 
-rows-bytes : AllBytes (map bytesIn rows)
-unfolding rows
-rows-bytes = all-tested (map bytesIn rows) tt
-
 -- THE WALK
 
 -- parts that are records have the size that the log rule asks for
@@ -95,19 +91,29 @@ run-lines S (bytes ∷ parts) h =
     let x = meldedOf S (parse bytes) in
     ap (λ (l : List Line). record { v = S .p + 1; answer = x .answer; looks = x .looks } ∷ l) more
 
-rows-few : length (map bytesIn rows) ≤ lastPosition
-unfolding rows
-rows-few = omega arith
+-- EACH TABLE
 
--- the eleven records as one log, cut and melded from `create` with N = 3 and Z = 4
-pub table-as-a-log : (xs : List Melded) (last : Cut) (m : List ℕ) → Whole 3 4 tableLog xs last m → TableRun xs last m
-table-as-a-log xs last m k =
-    let f = pool-after-log 3 4 tableLog xs last m (joined-bytes rows-bytes) k in
-    let (parts, ends) = walks-once (f .walks) (map bytesIn rows) End (joined-walks (records-sized rows-bytes (map recOf rows) (table .read))) in
+-- a table that holds says what a card says over its log, cut and melded from `create` with N = 3 and Z = 4
+rows-as-a-log : (rs : List Row) (keys : List ℕ) → T (areAllBytes (map bytesIn rs)) → length (map bytesIn rs) ≤ lastPosition → Holds rs keys
+    → (xs : List Melded) (last : Cut) (m : List ℕ) → Whole 3 4 (logOf rs) xs last m → TableRun rs keys xs last m
+rows-as-a-log rs keys t few h xs last m k =
+    let b = all-tested (map bytesIn rs) t in
+    let f = pool-after-log 3 4 (logOf rs) xs last m (joined-bytes b) k in
+    let (parts, ends) = walks-once (f .walks) (map bytesIn rs) End (joined-walks (records-sized b (map recOf rs) (h .read))) in
     record {
-      lines = ap (linesFrom 1) (f .answers ∙ ap (verdicts (fresh 3 4)) parts) ∙ sym (run-lines (fresh 3 4) (map bytesIn rows) (omega (arith, rows-few))) ∙ table .melded;
+      lines = ap (linesFrom 1) (f .answers ∙ ap (verdicts (fresh 3 4)) parts) ∙ sym (run-lines (fresh 3 4) (map bytesIn rs) (omega (arith, few))) ∙ h .melded;
       ends = ends;
       S = after (fresh 3 4) (map parse (f .parts));
       means = f .means;
-      kept-keys = ap (λ (l : List (List ℕ)). map keyIn (after (fresh 3 4) (map parse l) .kept)) parts ∙ table .kept-keys;
+      kept-keys = ap (λ (l : List (List ℕ)). map keyIn (after (fresh 3 4) (map parse l) .kept)) parts ∙ h .kept-keys;
     }
+
+-- R44: the eleven records; 10, 30 and 40 are kept
+pub table-as-a-log : (xs : List Melded) (last : Cut) (m : List ℕ) → Whole 3 4 (logOf rows) xs last m → TableRun rows (10 ∷ 30 ∷ 40 ∷ []) xs last m
+unfolding rows
+table-as-a-log = rows-as-a-log rows (10 ∷ 30 ∷ 40 ∷ []) tt (omega arith) (table .eleven)
+
+-- R55: the eight of deletes; 10, 30 and 40 are kept
+pub deletes-as-a-log : (xs : List Melded) (last : Cut) (m : List ℕ) → Whole 3 4 (logOf deleteRows) xs last m → TableRun deleteRows (10 ∷ 30 ∷ 40 ∷ []) xs last m
+unfolding deleteRows
+deletes-as-a-log = rows-as-a-log deleteRows (10 ∷ 30 ∷ 40 ∷ []) tt (omega arith) (table .deletes)

@@ -19,7 +19,7 @@ use Rattle.rules.specs.Log.{Log, after, wrote, commits}
 use Rattle.rules.specs.Demands.{lastWrite}
 use Rattle.rules.proofs.Tests.{is-true, is-false, test, yes-eq}
 use Rattle.rules.proofs.Finding.{lastWrite-append}
-use Rattle.rules.proofs.Stored.{writes-at}
+use Rattle.rules.proofs.Written.{writes-at, writes-none}
 use Rattle.rules.proofs.Positions.{next-p, after-up}
 use Rattle.rules.proofs.Passing.{commits-exactly}
 use Rattle.demands.specs.Reasons.{BeatenBy, LastWriter}
@@ -49,12 +49,12 @@ last-or k o (x ∷ ws) {e} q = go (test (eqb (x .key) k)) (last-or k (if eqb (x 
     go (inr t) (inl h) = inl (rw (is-false (eqb (x .key) k) t) at (h .0), none-more t (h .1))
 
 -- what was written was written by a record that committed
-wrote-committed : (S : State) (m : Option Rec) {e : Entry} → Mem e (wrote (S .p + 1) (pointsOf m) (verdict S m))
-    → (r : Rec) × (m ≡ some r) × (verdict S (some r) ≡ committed) × Mem e (writesOf (S .p + 1) (r .points))
+wrote-committed : (S : State) (m : Option Rec) {e : Entry} → Mem e (wrote S (pointsOf m) (verdict S m))
+    → (r : Rec) × (m ≡ some r) × (verdict S (some r) ≡ committed) × Mem e (writesOf S (r .points))
 wrote-committed S none {e} m = absurd (go (verdict S none) m)
   where
-    go : (a : Verdict) → Mem e (wrote (S .p + 1) [] a) → ⊥
-    go committed m = elim m [ ]
+    go : (a : Verdict) → Mem e (wrote S [] a) → ⊥
+    go committed m = elim (subst (λ (ws : List Entry). Mem e ws) (writes-none S) m) [ ]
     go conflict m = elim m [ ]
     go tooOld m = elim m [ ]
     go noRoom m = elim m [ ]
@@ -63,7 +63,7 @@ wrote-committed S none {e} m = absurd (go (verdict S none) m)
     go positionsUsedUp m = elim m [ ]
 wrote-committed S (some r) {e} m = let x = go (verdict S (some r)) m in (r, refl, x .0, x .1)
   where
-    go : (a : Verdict) → Mem e (wrote (S .p + 1) (r .points) a) → (a ≡ committed) × Mem e (writesOf (S .p + 1) (r .points))
+    go : (a : Verdict) → Mem e (wrote S (r .points) a) → (a ≡ committed) × Mem e (writesOf S (r .points))
     go committed m = (refl, m)
     go conflict m = elim m [ ]
     go tooOld m = elim m [ ]
@@ -79,7 +79,7 @@ record LastIn (S : State) (log : Log) (k : ℕ) (e : Entry) : Type 0 where
   behind : Log
   stands : log ≡ before ++ (some writer ∷ behind)
   committed-there : verdict (after S before) (some writer) ≡ committed
-  wrote-there : Mem e (writesOf (after S before .p + 1) (writer .points))
+  wrote-there : Mem e (writesOf (after S before) (writer .points))
   none-behind : NoneOf k (commits (next (after S before) (some writer)) behind)
 
 -- what a log leaves under a key was there before, and no record of it wrote the key; or one did
@@ -90,7 +90,7 @@ last-in k S o [] q = inl (q, λ c m. elim m [ ])
 last-in k S o (m ∷ log) {e} q = go (last-in k (next S m) (lastWrite k o first) log (sym (lastWrite-append k o first (commits (next S m) log)) ∙ q))
   where
     first : List Entry
-    first = wrote (S .p + 1) (pointsOf m) (verdict S m)
+    first = wrote S (pointsOf m) (verdict S m)
 
     Answer : Type 0
     Answer = ((o ≡ some e) × NoneOf k (first ++ commits (next S m) log)) ⊎ ((e .key ≡ k) × LastIn S (m ∷ log) k e)
@@ -143,7 +143,7 @@ writer-in-the-log N Z log r k w h = go (last-in k (fresh N Z) none log (h .last)
     go (inl x) = let q : none ≡ some (h .write) = x .0 in let z : _≡_ {A = ℕ} 0 1 = cc in absurd (omega arith)
     go (inr x) =
         let l = x .1 in
-        let v : after (fresh N Z) (l .before) .p + 1 ≡ w = sym (writes-at (after (fresh N Z) (l .before) .p + 1) (l .writer .points) (l .wrote-there)) ∙ h .at-position in
+        let v : after (fresh N Z) (l .before) .p + 1 ≡ w = sym (writes-at (after (fresh N Z) (l .before)) (l .writer .points) (l .wrote-there)) ∙ h .at-position in
         let left = commits-exactly N Z (l .before) (some (l .writer)) .0 (l .committed-there) .position-left in
         record {
           before = l .before;
@@ -152,6 +152,6 @@ writer-in-the-log N Z log r k w h = go (last-in k (fresh N Z) none log (h .last)
           stands = l .stands;
           number = omega (arith, v, position-counts (fresh N Z) (l .before) left);
           committed-there = l .committed-there;
-          wrote = (h .write, subst (λ (n : ℕ). Mem (h .write) (writesOf n (l .writer .points))) v (l .wrote-there), x .0);
+          wrote = (h .write, l .wrote-there, x .0);
           none-behind = l .none-behind;
         }

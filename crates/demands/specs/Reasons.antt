@@ -42,7 +42,7 @@ pub record LastWriter (N Z : ℕ) (log : Log) (k w : ℕ) : Type 0 where
   pub stands : log ≡ before ++ (some writer ∷ behind)
   pub number : length before + 1 ≡ w
   pub committed-there : verdict (after (fresh N Z) before) (some writer) ≡ committed
-  pub wrote : (e : Entry) × Mem e (writesOf w (writer .points)) × (e .key ≡ k)
+  pub wrote : (e : Entry) × Mem e (writesOf (after (fresh N Z) before) (writer .points)) × (e .key ≡ k)
   pub none-behind : (e : Entry) → Mem e (commits (next (after (fresh N Z) before) (some writer)) behind) → e .key ≡ k → ⊥
 
 -- R50, R51: m is a record, and its reason names what has beaten it, and what of it touches that key

@@ -16,10 +16,9 @@ use Rattle.rules.specs.Lists.{keep}
 use Rattle.rules.specs.State.{Entry, State, lastPosition}
 use Rattle.rules.specs.Footprint.{writesOf}
 use Rattle.rules.specs.Verdict.{Verdict, committed, conflict, tooOld, noRoom, malformed, ahead, positionsUsedUp, storeAll, young, whole, lean, drops, apply, count, conflicts, refusalOr, judge, verdict, pointsOf, step, left, next}
-use Rattle.rules.proofs.Stored.{writes-at}
 use Rattle.rules.specs.EntryFits.{EntryFits}
 use Rattle.rules.specs.Log.{ValidIf}
-use Rattle.rules.proofs.Written.{record-sized}
+use Rattle.rules.proofs.Written.{writes-at, record-sized}
 use Rattle.rules.proofs.Counted.{count-stored, drops-whole}
 use Rattle.pool.specs.Image.{Arrangement, Arranged, stateOf}
 use Rattle.drop.specs.Drop.{dropIn}
@@ -60,12 +59,12 @@ passed-checks S (some r) h =
 
 -- A COMMIT
 
-module _ (A : Arrangement) (q : Arranged A) (ps : List Point) (more : A .p < lastPosition) (sized : (e : Entry) → Mem e (writesOf (A .p + 1) ps) → EntryFits e) where
+module _ (A : Arrangement) (q : Arranged A) (ps : List Point) (more : A .p < lastPosition) (sized : (e : Entry) → Mem e (writesOf (stateOf A) ps) → EntryFits e) where
   abbrev ws : List Entry
-  ws = writesOf (A .p + 1) ps
+  ws = writesOf (stateOf A) ps
 
   onward-storable : length (whole (stateOf A) ps) ≤ A .N → AllStorable (movedOn A) ws
-  onward-storable h = record { started = omega arith; sized = sized; at-p = λ e m. writes-at (A .p + 1) ps m; room = h }
+  onward-storable h = record { started = omega arith; sized = sized; at-p = λ e m. writes-at (stateOf A) ps m; room = h }
 
   kept-lean : stateOf (dropIn (oldAt A) (movedOn A)) .kept ≡ keep (young (A .Z) (A .p + 1)) (stateOf A .kept)
   kept-lean = drop-young (A .Z) (A .p + 1) (movedOn A) (onward-arranged A more q)
@@ -75,7 +74,7 @@ module _ (A : Arrangement) (q : Arranged A) (ps : List Point) (more : A .p < las
       record {
         started = omega arith;
         sized = sized;
-        at-p = λ e m. writes-at (A .p + 1) ps m;
+        at-p = λ e m. writes-at (stateOf A) ps m;
         room = subst (λ (es : List Entry). length (storeAll ws es) ≤ A .N) (sym kept-lean) (omega (arith, h, count-stored (stateOf A) ps (q .lawful .rising) sized));
       }
 
@@ -102,7 +101,7 @@ after-state A q m valid = go (verdict (stateOf A) m) refl
     go committed e =
         let x = passed-checks (stateOf A) m e in
         let c : count (stateOf A) (pointsOf m) ≤ A .N = rw (x .is) (x .room) in
-        committed-state A q (pointsOf m) (x .position-left) (record-sized (A .p + 1) m valid) c
+        committed-state A q (pointsOf m) (x .position-left) (record-sized (stateOf A) m valid) c
     go conflict e = refl
     go tooOld e = refl
     go noRoom e = refl

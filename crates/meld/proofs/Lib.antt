@@ -1,5 +1,6 @@
 pub mod AfterState
 pub mod Judging
+mod Settled
 mod Verdicts
 pub mod Lookups
 mod Statuses

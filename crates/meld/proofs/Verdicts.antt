@@ -31,12 +31,14 @@ use Rattle.judge.specs.declared.judged.Judged.{Judged}
 use Rattle.judge.specs.Judged.{judgedOf}
 use Rattle.room.specs.declared.room.Room.{Room}
 use Rattle.room.specs.declared.room.Room.the-variants.{Enough, AfterDrop, TooLittle}
+use Rattle.room.specs.Tally.{Settles}
+use Rattle.room.proofs.Counts.{length-settled}
 use Rattle.room.specs.Room.{saidBy, roomIn, Writable, RoomIs}
-use Rattle.commit.specs.Applied.{pointsIn, writesIn, storeIn}
+use Rattle.commit.specs.Applied.{writesIn, storeIn}
 use Rattle.commit.specs.Commit.{oldAt, commitIn, commitLean, Committable, allKept, notOld}
-use Rattle.commit.proofs.Storing.{points-in}
 use Rattle.meld.specs.After.{committedIn, leftIn, afterIn}
 use Rattle.meld.specs.Lists.{Names as NamesOf, Meldable, MeldsLists}
+use Rattle.meld.proofs.Settled.{settled-writes}
 use Rattle.meld.proofs.Judging.{Stops, at-ahead, at-too-old, at-conflict, Decided, Open, decided, too-little, after-drop, enough}
 
 module _ (m : List ℕ) (s : ℕ) (kinds ks xs ls hs : List ℕ) (pre : Meldable m s kinds ks xs ls hs) where
@@ -69,9 +71,6 @@ module _ (m : List ℕ) (s : ℕ) (kinds ks xs ls hs : List ℕ) (pre : Meldable
   -- a position is left in whatever arrangement the pool is the image of
   more : (A : Arrangement) → Image m A → A .p < lastPosition
   more A i = omega (arith, pre .left, ap (λ (h : Header). h .position) (sym (i .header) ∙ pre .image .header))
-
-  points-are : (r : Rec) → NamesOf s kinds ks xs ls hs r → pointsIn kinds ks xs ≡ r .points
-  points-are r n = rw (n .kinds-are, n .keys-are, n .payloads-are) (points-in (r .points))
 
   print-is : (r : Rec) → NamesOf s kinds ks xs ls hs r → footprint ks ls hs ≡ reach r
   print-is r n = rw (n .keys-are, n .lows-are, n .highs-are) (footprint-reach r)
@@ -114,7 +113,7 @@ module _ (m : List ℕ) (s : ℕ) (kinds ks xs ls hs : List ℕ) (pre : Meldable
       answer-zero : (A : Arrangement) → Image m A → (r : Rec) → NamesOf s kinds ks xs ls hs r → j .answer ≡ Names.committed
       answer-zero A i r n = open-way A i r n .answer-is
 
-      module _ (a : Room) (ea : RoomIs m kinds ks a) where
+      module _ (a : Room) (ea : RoomIs m kinds ks a) (kinds′ : List ℕ) (settles : Settles m kinds ks kinds′) where
         room-is : (A : Arrangement) → Image m A → (r : Rec) → NamesOf s kinds ks xs ls hs r → (b : Room) → a ≡ b → saidBy b ≡ roomIn (stateOf A) (r .points)
         room-is A i r n b e = ap saidBy (sym e) ∙ ea A i r (n .valid) (n .kinds-are) (n .keys-are)
 
@@ -126,8 +125,12 @@ module _ (m : List ℕ) (s : ℕ) (kinds ks xs ls hs : List ℕ) (pre : Meldable
             let v : verdict (stateOf A) (some r) ≡ noRoom = x .is ∙ rw (t .over) in
             record { verdict-is = rw (x .looks-is, v); leaves = rw v (moved A i) }
 
-        sized : (v : ℕ) (r : Rec) → NamesOf s kinds ks xs ls hs r → (e : Entry) → Mem e (writesIn v kinds ks xs) → EntryFits e
-        sized v r n e w = written-sized v 0 (r .points) (n .valid .rising) e (subst (λ (ps : List Point). Mem e (writesOf v ps)) (points-are r n) w)
+        -- what the settled lists store is what the record writes
+        writes-are : (A : Arrangement) → Image m A → (r : Rec) → NamesOf s kinds ks xs ls hs r → writesIn (A .p + 1) kinds′ ks xs ≡ writesOf (stateOf A) (r .points)
+        writes-are A i r n = rw (settles A i, n .kinds-are, n .keys-are, n .payloads-are) (settled-writes (stateOf A) (r .points))
+
+        sized : (A : Arrangement) → Image m A → (r : Rec) → NamesOf s kinds ks xs ls hs r → (e : Entry) → Mem e (writesIn (A .p + 1) kinds′ ks xs) → EntryFits e
+        sized A i r n e w = written-sized (stateOf A) 0 (r .points) (n .valid .rising) e (subst (λ (ws : List Entry). Mem e ws) (writes-are A i r n) w)
 
         as-keys : length ks ≡ length kinds
         as-keys = let n = pre .names in rw (n .keys-are, n .kinds-are) (length-map (pre .r .points) keyOf ∙ sym (length-map (pre .r .points) kindOf))
@@ -135,9 +138,12 @@ module _ (m : List ℕ) (s : ℕ) (kinds ks xs ls hs : List ℕ) (pre : Meldable
         as-payloads : length xs ≡ length kinds
         as-payloads = let n = pre .names in rw (n .payloads-are, n .kinds-are) (length-map (pre .r .points) payloadOf ∙ sym (length-map (pre .r .points) kindOf))
 
+        as-settled : length kinds′ ≡ length kinds
+        as-settled = ap length (settles (pre .arrangement) (pre .image)) ∙ length-settled kinds ks (stateOf (pre .arrangement) .kept) (sym as-keys)
+
         -- NOTHING DROPPED
 
-        pub asks-writes : a ≡ Enough → Committable m kinds ks xs allKept
+        pub asks-writes : a ≡ Enough → Committable m kinds′ ks xs allKept
         asks-writes e =
             let A = pre .arrangement in
             let n = pre .names in
@@ -146,19 +152,19 @@ module _ (m : List ℕ) (s : ℕ) (kinds ks xs ls hs : List ℕ) (pre : Meldable
               arrangement = A;
               image = pre .image;
               left = pre .left;
-              as-many-keys = as-keys;
-              as-many-payloads = as-payloads;
-              sized = sized (A .p + 1) (pre .r) n;
-              room = subst (λ (ps : List Point). length (storeAll (writesOf (A .p + 1) ps) (stateOf A .kept)) ≤ A .N) (sym (points-are (pre .r) n)) (f .fits);
+              as-many-keys = as-keys ∙ sym as-settled;
+              as-many-payloads = as-payloads ∙ sym as-settled;
+              sized = sized A (pre .image) (pre .r) n;
+              room = subst (λ (ws : List Entry). length (storeAll ws (stateOf A .kept)) ≤ A .N) (sym (writes-are A (pre .image) (pre .r) n)) (f .fits);
             }
 
-        pub whole-melds : (m′ : List ℕ) → a ≡ Enough → ((A : Arrangement) → Image m A → Image m′ (commitIn kinds ks xs A)) → MeldsLists m s kinds ks xs ls hs m′ (record { answer = j .answer; looks = j .looks })
+        pub whole-melds : (m′ : List ℕ) → a ≡ Enough → ((A : Arrangement) → Image m A → Image m′ (commitIn kinds′ ks xs A)) → MeldsLists m s kinds ks xs ls hs m′ (record { answer = j .answer; looks = j .looks })
         unfolding afterIn committedIn
         whole-melds m′ e left A i r n =
             let x = open-way A i r n in
             let f = enough (stateOf A) r (i .arranged .lawful) (n .valid) (room-is A i r n Enough e) in
             let v : verdict (stateOf A) (some r) ≡ committed = x .is ∙ rw (f .tested) in
-            let l : Image m′ (storeIn (movedOn A) (writesOf (A .p + 1) (r .points))) = subst (λ (ps : List Point). Image m′ (storeIn (movedOn A) (writesOf (A .p + 1) ps))) (points-are r n) (left A i) in
+            let l : Image m′ (storeIn (movedOn A) (writesOf (stateOf A) (r .points))) = subst (λ (ws : List Entry). Image m′ (storeIn (movedOn A) ws)) (writes-are A i r n) (left A i) in
             record { verdict-is = rw (x .looks-is, v, x .answer-is); leaves = rw (v, f .under) l }
 
         -- THE OLD TOMBSTONES DROPPED FIRST
@@ -166,27 +172,27 @@ module _ (m : List ℕ) (s : ℕ) (kinds ks xs ls hs : List ℕ) (pre : Meldable
         lean-is : (A : Arrangement) → Image m A → keep (stays (oldAt A)) (stateOf A .kept) ≡ keep (young (A .Z) (A .p + 1)) (stateOf A .kept)
         lean-is A i = sym (keep-young (A .Z) (A .p + 1) (stateOf A .kept) (λ e w. i .arranged .lawful .positions e w .0))
 
-        pub asks-lean : a ≡ AfterDrop → Committable m kinds ks xs notOld
+        pub asks-lean : a ≡ AfterDrop → Committable m kinds′ ks xs notOld
         asks-lean e =
             let A = pre .arrangement in
             let n = pre .names in
             let f = after-drop (stateOf A) (pre .r) (room-is A (pre .image) (pre .r) n AfterDrop e) in
-            let c : length (storeAll (writesOf (A .p + 1) (pre .r .points)) (keep (stays (oldAt A)) (stateOf A .kept))) ≤ A .N = rw (lean-is A (pre .image)) (omega (arith, f .fits, row-three (pre .image .arranged .lawful) (n .valid))) in
+            let c : length (storeAll (writesOf (stateOf A) (pre .r .points)) (keep (stays (oldAt A)) (stateOf A .kept))) ≤ A .N = rw (lean-is A (pre .image)) (omega (arith, f .fits, row-three (pre .image .arranged .lawful) (n .valid))) in
             record {
               arrangement = A;
               image = pre .image;
               left = pre .left;
-              as-many-keys = as-keys;
-              as-many-payloads = as-payloads;
-              sized = sized (A .p + 1) (pre .r) n;
-              room = subst (λ (ps : List Point). length (storeAll (writesOf (A .p + 1) ps) (keep (stays (oldAt A)) (stateOf A .kept))) ≤ A .N) (sym (points-are (pre .r) n)) c;
+              as-many-keys = as-keys ∙ sym as-settled;
+              as-many-payloads = as-payloads ∙ sym as-settled;
+              sized = sized A (pre .image) (pre .r) n;
+              room = subst (λ (ws : List Entry). length (storeAll ws (keep (stays (oldAt A)) (stateOf A .kept))) ≤ A .N) (sym (writes-are A (pre .image) (pre .r) n)) c;
             }
 
-        pub lean-melds : (m′ : List ℕ) → a ≡ AfterDrop → ((A : Arrangement) → Image m A → Image m′ (commitLean kinds ks xs A)) → MeldsLists m s kinds ks xs ls hs m′ (record { answer = j .answer; looks = j .looks })
+        pub lean-melds : (m′ : List ℕ) → a ≡ AfterDrop → ((A : Arrangement) → Image m A → Image m′ (commitLean kinds′ ks xs A)) → MeldsLists m s kinds ks xs ls hs m′ (record { answer = j .answer; looks = j .looks })
         unfolding afterIn committedIn
         lean-melds m′ e left A i r n =
             let x = open-way A i r n in
             let f = after-drop (stateOf A) r (room-is A i r n AfterDrop e) in
             let v : verdict (stateOf A) (some r) ≡ committed = x .is ∙ rw (f .tested) in
-            let l : Image m′ (storeIn (dropIn (oldAt A) (movedOn A)) (writesOf (A .p + 1) (r .points))) = subst (λ (ps : List Point). Image m′ (storeIn (dropIn (oldAt A) (movedOn A)) (writesOf (A .p + 1) ps))) (points-are r n) (left A i) in
+            let l : Image m′ (storeIn (dropIn (oldAt A) (movedOn A)) (writesOf (stateOf A) (r .points))) = subst (λ (ws : List Entry). Image m′ (storeIn (dropIn (oldAt A) (movedOn A)) ws)) (writes-are A i r n) (left A i) in
             record { verdict-is = rw (x .looks-is, v, x .answer-is); leaves = rw (v, f .over) l }

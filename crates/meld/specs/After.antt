@@ -1,6 +1,5 @@
 -- What a record leaves in an arrangement: R23's last column, with the nodes.
 -- Assumes nothing: these are definitions.
-use Prim.Native.Nat.{_+_}
 use mathlib.Core.Option.{Option}
 use mathlib.Core.List.{List}
 use Rattle.record.specs.declared.point.Point.{Point}
@@ -17,7 +16,7 @@ use Rattle.commit.specs.Commit.{oldAt}
 -- the position moved on (R29), the old tombstones dropped where R27 drops them, and the writes stored (R28)
 unfoldable pub committedIn : Arrangement → List Point → Arrangement
 committedIn A ps =
-    storeIn (if drops (stateOf A) ps then dropIn (oldAt A) (movedOn A) else movedOn A) (writesOf (A .p + 1) ps)
+    storeIn (if drops (stateOf A) ps then dropIn (oldAt A) (movedOn A) else movedOn A) (writesOf (stateOf A) ps)
 
 -- R23's last column, for each answer
 abbrev pub leftIn : Arrangement → List Point → Verdict → Arrangement

@@ -10,11 +10,12 @@ use room::room_for;
 ghost use mathlib.Core.Path.{_≡_};
 ghost use Rattle.meld.specs.Lists.{Meldable, MeldsLists};
 
-// Melds a well-formed record, given as its lists, into a fit pool that has a position left: 5, 2, 1, 3 or 0.
+// Melds a well-formed record, given as its lists, into a fit pool that has a position left: 5, 2, 1, 3 or 0. What the
+// kinds hold afterwards means nothing.
 pub fn meld_lists(
     pool: &mut [u8],
     snapshot: u32,
-    kinds: &[u8],
+    kinds: &mut [u8],
     keys: &[u32],
     payloads: &[u64],
     lows: &[u32],

@@ -57,7 +57,7 @@ pub fn meld_with(
     meld_lists(
         pool,
         reading.snapshot,
-        &kinds[..n],
+        &mut kinds[..n],
         &keys[..n],
         &payloads[..n],
         &lows[..k],

@@ -9,7 +9,7 @@ ghost use Rattle.put.specs.Asks.{LeafOf};
 pub enum Value {
     // A put: the payload.
     Live(u64),
-    // A delete, whether or not the key was there.
+    // A delete.
     Tombstone,
 }
 

@@ -51,7 +51,7 @@ fn explain_with(
     explain_lists(
         pool,
         reading.snapshot,
-        &kinds[..n],
+        &mut kinds[..n],
         &keys[..n],
         &lows[..k],
         &highs[..k],

@@ -22,11 +22,11 @@ pub fn plain(answer: Answer, looks: u32) -> Explained
 }
 
 // Explains a well-formed record, given as its lists, to a fit pool that has a position left: 5, 2, 1, 3 or 0. The search is made once, and names the
-// leaf of the smallest key in conflict.
+// leaf of the smallest key in conflict. What the kinds hold afterwards means nothing.
 pub fn explain_lists(
     pool: &[u8],
     snapshot: u32,
-    kinds: &[u8],
+    kinds: &mut [u8],
     keys: &[u32],
     lows: &[u32],
     highs: &[u32],

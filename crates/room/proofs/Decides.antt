@@ -37,7 +37,7 @@ unfolding tallyOf tally
 tally-lists f [] es = refl
 tally-lists f (Read k ∷ ps) es = omega (arith, tally-lists f ps es)
 tally-lists f (Put k x ∷ ps) es = rw (tally-lists f ps es)
-tally-lists f (Delete k ∷ ps) es = rw (tally-lists f ps es)
+tally-lists f (Delete k ∷ ps) es = omega (arith, tally-lists f ps es)
 
 -- each at most one
 tally-small : (f : Found → ℕ) → ((x : Found) → f x ≤ 1) → (kinds ks : List ℕ) (es : List Entry) → tallyOf f kinds ks es ≤ length ks
@@ -102,8 +102,8 @@ module _ (m kinds ks : List ℕ) (fit : Fit m) (w : Writable m kinds ks) (h : He
         rw q (count-is (i .arranged .lawful) (r .points) (v .rising)) in
         omega (arith, c, et A i .absent-is, et A i .revived-is, words A i .kept-is)
 
-    sized : (e : Entry) → Mem e (writesOf (A .p + 1) (r .points)) → EntryFits e
-    sized = written-sized (A .p + 1) 0 (r .points) (v .rising)
+    sized : (e : Entry) → Mem e (writesOf (stateOf A) (r .points)) → EntryFits e
+    sized = written-sized (stateOf A) 0 (r .points) (v .rising)
 
     -- the drop, by what was counted
     drops-is : drops (stateOf A) (r .points) ≡ ltb (A .N) (length (whole (stateOf A) (r .points)))

@@ -1,4 +1,5 @@
--- The promise of `room_for` leaves one answer: the three answers say three different things, and what the rules say is one thing.
+-- The promise of `room_for` leaves one answer: the three answers say three different things, and what the rules say is one thing. Nor does it leave a
+-- second list of kinds.
 -- Assumes nothing.
 use Prim.Native.Nat.{ℕ}
 use mathlib.Core.Path.{_≡_, refl, sym, ap, _∙_}
@@ -11,6 +12,7 @@ use Rattle.record.specs.Answer.{noRoom}
 use Rattle.pool.specs.Image.{Fit}
 use Rattle.room.specs.declared.room.Room.{Room}
 use Rattle.room.specs.declared.room.Room.the-variants.{Enough, AfterDrop, TooLittle}
+use Rattle.room.specs.Tally.{Settles}
 use Rattle.room.specs.Room.{RoomSaid, saidBy, Writable, RoomIs}
 
 -- answers that say the same are the same
@@ -31,3 +33,7 @@ only-room m kinds keys a b f w p q =
     let x = p (f .arrangement) (f .image) (w .r) (w .valid) (w .kinds-are) (w .keys-are) in
     let y = q (f .arrangement) (f .image) (w .r) (w .valid) (w .kinds-are) (w .keys-are) in
     same-said a b (x ∙ sym y)
+
+-- nor are there two lists of settled kinds
+pub only-settled : (m kinds keys a b : List ℕ) → Fit m → Settles m kinds keys a → Settles m kinds keys b → a ≡ b
+only-settled m kinds keys a b f p q = p (f .arrangement) (f .image) ∙ sym (q (f .arrangement) (f .image))

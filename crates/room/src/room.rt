@@ -1,10 +1,11 @@
 // Whether a record's writes find room.
-use crate::tally::tally_points;
+use crate::tally::settle_points;
 use drop::count_old;
 use nodes::read_header;
 ghost use mathlib.Core.Path.{_≡_};
 ghost use Prim.Native.Nat.{_≤_};
 ghost use Rattle.pool.specs.Image.{Fit};
+ghost use Rattle.room.specs.Tally.{Settles};
 ghost use Rattle.room.specs.Room.{oldLimit, Writable, RoomIs};
 
 pub enum Room {
@@ -26,15 +27,17 @@ pub fn old_limit(position: u32, zone: u32) -> u32
 }
 
 // What there is room for in a fit pool. Old tombstones are counted only if the kept and the written keys pass N, and only up to as many as must go:
-// where there is no room there are fewer, and all of them are counted.
-pub fn room_for(pool: &[u8], kinds: &[u8], keys: &[u32]) -> Room
+// where there is no room there are fewer, and all of them are counted. The search that counts a key also tells whether its delete writes: afterwards the
+// kinds have a read for each delete of a key that is not live, so that nobody has to search again.
+pub fn room_for(pool: &[u8], kinds: &mut [u8], keys: &[u32]) -> Room
     requires { ⌜ Fit (now pool) ⌝ }
     requires { ⌜ Writable (now pool) (now kinds) (now keys) ⌝ }
     ensures { λ r. ⌜ RoomIs (now (pool .entry)) (now (kinds .entry)) (now (keys .entry)) r ⌝ }
+    ensures { λ _. ⌜ Settles (now (pool .entry)) (now (kinds .entry)) (now (keys .entry)) (now (kinds .exit)) ⌝ }
 {
     let h = read_header(pool);
     let limit = old_limit(h.position, h.zone);
-    let written = tally_points(pool, kinds, keys, limit);
+    let written = settle_points(pool, kinds, keys, limit);
     let all = h.kept + written.absent;
     if all <= h.limit {
         return Room::Enough;

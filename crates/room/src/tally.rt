@@ -1,11 +1,11 @@
-// How many of the keys that a record writes are not kept, and how many are kept as old tombstones: one descent a written key.
+// How many of the keys that a record puts are not kept, how many are kept as old tombstones, and which of its deletes write: one descent a key.
 use find::Found;
 use find::find;
 ghost use mathlib.Core.Path.{_≡_};
 ghost use Prim.Native.Nat.{_≤_};
 ghost use lib.ListN.{length};
 ghost use Rattle.pool.specs.Image.{Arrangement, Image, Fit, stateOf};
-ghost use Rattle.room.specs.Tally.{oneIfAbsent, oneIfRevived, writesAs, Tallied, TallyIs};
+ghost use Rattle.room.specs.Tally.{oneIfAbsent, oneIfRevived, deleteAs, SettledAs, TallyIs, Settles};
 
 pub struct Tally {
     // Keys that are not kept.
@@ -14,7 +14,16 @@ pub struct Tally {
     pub revived: u32,
 }
 
-// What one key adds.
+// A point, once its key was looked for.
+struct Settled {
+    // Its kind; a delete that writes nothing is a read from then on.
+    kind: u8,
+    // What it adds.
+    absent: u32,
+    revived: u32,
+}
+
+// What one put adds.
 fn tally_one(found: Found, limit: u32) -> Tally
     ensures { λ r. ⌜ (r .absent ≡ oneIfAbsent found) × (r .revived ≡ oneIfRevived limit found) ⌝ }
 {
@@ -46,41 +55,60 @@ fn tally_one(found: Found, limit: u32) -> Tally
     }
 }
 
-// Whether a point of this kind writes its key: a put or a delete does.
-fn writes_as(kind: u8) -> bool
-    ensures { λ r. ⌜ r ≡ writesAs kind ⌝ }
+// The kind of a delete, by what is kept under its key: a delete where that is live; else a read, which is passed over.
+fn delete_as(found: Found) -> u8
+    ensures { λ r. ⌜ r ≡ deleteAs found ⌝ }
 {
-    if kind == 2 {
-        return true;
+    match found {
+        Found::Live {
+            payload: _,
+            position: _,
+        } => 3,
+        Found::Absent => 1,
+        Found::Tombstone { position: _ } => 1,
     }
-    kind == 3
 }
 
-// What a point adds: nothing if it is neither a put nor a delete.
-fn tally_point(pool: &[u8], kind: u8, key: u32, limit: u32) -> Tally
+// Looks for the key of a put or a delete. A put adds what is kept under it; a delete adds nothing, as it writes only a key that is live.
+fn settle_point(pool: &[u8], kind: u8, key: u32, limit: u32) -> Settled
     requires { ⌜ Fit (now pool) ⌝ }
-    ensures { λ r. ⌜ ((A : Arrangement) → Image (now (pool .entry)) A → Tallied kind key limit (stateOf A .kept) r) ⌝ }
+    ensures { λ r. ⌜ ((A : Arrangement) → Image (now (pool .entry)) A → SettledAs kind key limit (stateOf A .kept) r) ⌝ }
 {
-    if !writes_as(kind) {
-        return Tally {
+    if kind == 2 {
+        let one = tally_one(find(pool, key), limit);
+        return Settled {
+            kind,
+            absent: one.absent,
+            revived: one.revived,
+        };
+    }
+    if kind == 3 {
+        return Settled {
+            kind: delete_as(find(pool, key)),
             absent: 0,
             revived: 0,
         };
     }
-    tally_one(find(pool, key), limit)
+    Settled {
+        kind,
+        absent: 0,
+        revived: 0,
+    }
 }
 
-// What all points add.
-pub fn tally_points(pool: &[u8], kinds: &[u8], keys: &[u32], limit: u32) -> Tally
+// What all points add. Afterwards the kinds have a read for each delete that writes nothing.
+pub fn settle_points(pool: &[u8], kinds: &mut [u8], keys: &[u32], limit: u32) -> Tally
     requires { ⌜ Fit (now pool) ⌝ }
     requires { ⌜ (length (now kinds) ≡ length (now keys)) × (length (now keys) ≤ 1024) ⌝ }
     ensures { λ r. ⌜ ((A : Arrangement) → Image (now (pool .entry)) A → TallyIs (now (kinds .entry)) (now (keys .entry)) limit (stateOf A .kept) r) ⌝ }
+    ensures { λ _. ⌜ Settles (now (pool .entry)) (now (kinds .entry)) (now (keys .entry)) (now (kinds .exit)) ⌝ }
 {
     let mut absent: u32 = 0;
     let mut revived: u32 = 0;
     let mut i: usize = 0;
     while i < keys.len() {
-        let one = tally_point(pool, kinds[i], keys[i], limit);
+        let one = settle_point(pool, kinds[i], keys[i], limit);
+        kinds[i] = one.kind;
         absent += one.absent;
         revived += one.revived;
         i += 1;

@@ -117,15 +117,15 @@ stored-count ws {es} k r =
 
 -- FOR POINTS AND A STATE
 
-module _ (S : State) (ps : List Point) (rising : Rising (2 ^ 32) 0 (S .kept)) (sized : (e : Entry) → Mem e (writesOf (S .p + 1) ps) → EntryFits e) where
+module _ (S : State) (ps : List Point) (rising : Rising (2 ^ 32) 0 (S .kept)) (sized : (e : Entry) → Mem e (writesOf S ps) → EntryFits e) where
   -- R26's keys, each once, are as many as there are entries once the writes are stored and the old tombstones are gone
   pub count-stored : count S ps ≡ length (lean S ps)
   unfolding count
-  count-stored = sym (stored-count (writesOf (S .p + 1) ps) (λ e m. sized e m .0) (keep-rising (young (S .Z) (S .p + 1)) rising))
+  count-stored = sym (stored-count (writesOf S ps) (λ e m. sized e m .0) (keep-rising (young (S .Z) (S .p + 1)) rising))
 
   -- R27's keys, each once, are as many as there are entries once the writes are stored
   pub taken-stored : length (distinct (keptOrWritten S ps)) ≡ length (whole S ps)
-  taken-stored = sym (stored-count (writesOf (S .p + 1) ps) (λ e m. sized e m .0) rising)
+  taken-stored = sym (stored-count (writesOf S ps) (λ e m. sized e m .0) rising)
 
   -- so the drop turns on these
   pub drops-whole : drops S ps ≡ ltb (S .N) (length (whole S ps))
@@ -138,10 +138,10 @@ module _ (S : State) (ps : List Point) (rising : Rising (2 ^ 32) 0 (S .kept)) (s
   count-whole = rw (← taken-stored) (once-le (distinct-once (counted S ps)) (distinct (keptOrWritten S ps))
       (λ k m. of-distinct (keptOrWritten S ps) (among k (in-append (map keyIn (keep (young (S .Z) (S .p + 1)) (S .kept))) (distinct-of (counted S ps) m)))))
     where
-      among : (k : ℕ) → Mem k (map keyIn (keep (young (S .Z) (S .p + 1)) (S .kept))) ⊎ Mem k (map keyIn (writesOf (S .p + 1) ps)) → Mem k (keptOrWritten S ps)
+      among : (k : ℕ) → Mem k (map keyIn (keep (young (S .Z) (S .p + 1)) (S .kept))) ⊎ Mem k (map keyIn (writesOf S ps)) → Mem k (keptOrWritten S ps)
       among k (inl m) =
           let x = of-map keyIn (keep (young (S .Z) (S .p + 1)) (S .kept)) m in
-          in-left (map keyIn (writesOf (S .p + 1) ps))
+          in-left (map keyIn (writesOf S ps))
           (subst (λ (j : ℕ). Mem j (map keyIn (S .kept))) (sym (x .2)) (mem-map keyIn (keep-mem (young (S .Z) (S .p + 1)) (S .kept) (x .1))))
       among k (inr m) = in-right (map keyIn (S .kept)) m
 
@@ -149,8 +149,8 @@ module _ (S : State) (ps : List Point) (rising : Rising (2 ^ 32) 0 (S .kept)) (s
 
 -- row 3's count is how many entries would be stored, were the old tombstones dropped
 pub row-three : {S : State} {r : Rec} → Lawful S → Valid r → count S (r .points) ≡ length (lean S (r .points))
-row-three {S} {r} l v = count-stored S (r .points) (l .rising) (written-sized (S .p + 1) 0 (r .points) (v .rising))
+row-three {S} {r} l v = count-stored S (r .points) (l .rising) (written-sized S 0 (r .points) (v .rising))
 
 -- the drop turns on how many entries would be stored, were none dropped
 pub drop-count : {S : State} {r : Rec} → Lawful S → Valid r → drops S (r .points) ≡ ltb (S .N) (length (whole S (r .points)))
-drop-count {S} {r} l v = drops-whole S (r .points) (l .rising) (written-sized (S .p + 1) 0 (r .points) (v .rising))
+drop-count {S} {r} l v = drops-whole S (r .points) (l .rising) (written-sized S 0 (r .points) (v .rising))

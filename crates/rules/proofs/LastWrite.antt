@@ -1,4 +1,4 @@
--- A lookup in the state after a log sees the last committed write of its key: the state is the committed puts and deletes in log order.
+-- A lookup in the state after a log sees the last committed write of its key: the state is the committed puts and the deletes that write, in log order.
 -- Assumes nothing.
 use Prim.Native.Nat.{ℕ, _+_, _^_}
 use native.Mathlib.Omega.{arith}
@@ -81,14 +81,14 @@ shows-store ws {es} {C} b f = record {
     ends e q (inr g) = g (lastWrite (e .key) none C) (find (e .key) es) ∙ q
 
 -- after a commit
-shows-commit : (S : State) {C : List Entry} (ps : List Point) → ((e : Entry) → Mem e (writesOf (S .p + 1) ps) → EntryFits e) → Shows (S .kept) C → Shows (apply S ps) (C ++ writesOf (S .p + 1) ps)
+shows-commit : (S : State) {C : List Entry} (ps : List Point) → ((e : Entry) → Mem e (writesOf S ps) → EntryFits e) → Shows (S .kept) C → Shows (apply S ps) (C ++ writesOf S ps)
 unfolding apply
-shows-commit S {C} ps b f = if-ind (λ (es : List Entry). Shows es (C ++ writesOf (S .p + 1) ps)) (drops S ps)
-    (λ _. shows-store (writesOf (S .p + 1) ps) b (shows-keep (S .Z) (S .p + 1) f)) (λ _. shows-store (writesOf (S .p + 1) ps) b f)
+shows-commit S {C} ps b f = if-ind (λ (es : List Entry). Shows es (C ++ writesOf S ps)) (drops S ps)
+    (λ _. shows-store (writesOf S ps) b (shows-keep (S .Z) (S .p + 1) f)) (λ _. shows-store (writesOf S ps) b f)
 
 -- after a record with any verdict
-shows-left : (S : State) {C : List Entry} (ps : List Point) → ((e : Entry) → Mem e (writesOf (S .p + 1) ps) → EntryFits e) → Shows (S .kept) C → (a : Verdict)
-    → Shows (left S ps a .kept) (C ++ wrote (S .p + 1) ps a)
+shows-left : (S : State) {C : List Entry} (ps : List Point) → ((e : Entry) → Mem e (writesOf S ps) → EntryFits e) → Shows (S .kept) C → (a : Verdict)
+    → Shows (left S ps a .kept) (C ++ wrote S ps a)
 shows-left S ps b f committed = shows-commit S ps b f
 shows-left S ps b f conflict = rw append-nil f
 shows-left S ps b f tooOld = rw append-nil f
@@ -102,7 +102,7 @@ shows-after : (S : State) {C : List Entry} (ms : Log) → WellFormed ms → Show
 unfolding after commits next
 shows-after S [] b f = rw append-nil f
 shows-after S (m ∷ ms) b f =
-    rw append-assoc at (shows-after (next S m) ms (λ r i. b r (there i)) (shows-left S (pointsOf m) (record-sized (S .p + 1) m (λ r e. b r (here (sym e)))) f (verdict S m)))
+    rw append-assoc at (shows-after (next S m) ms (λ r i. b r (there i)) (shows-left S (pointsOf m) (record-sized S m (λ r e. b r (here (sym e)))) f (verdict S m)))
 
 -- over a log from a fresh pool the kept entries show what its committed writes leave behind
 pub shows-log : (N Z : ℕ) (log : Log) → WellFormed log → Shows (after (fresh N Z) log .kept) (commits (fresh N Z) log)

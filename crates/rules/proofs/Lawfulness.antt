@@ -16,10 +16,10 @@ use Rattle.rules.specs.Footprint.{writesOf}
 use Rattle.rules.specs.Verdict.{Verdict, conflicts, storeAll, young, whole, drops, apply, count, refusalOr, judge, formed, pointsOf, verdict, step, left, next}
 use Rattle.rules.specs.Log.{Log, ValidIf, WellFormed, after}
 use Rattle.rules.proofs.Tests.{if-ind, no-lt}
-use Rattle.rules.proofs.Stored.{writes-at, apply-mem}
+use Rattle.rules.proofs.Stored.{apply-mem}
 use Rattle.rules.proofs.Sorted.{keep-rising, storeAll-rising}
 use Rattle.rules.specs.EntryFits.{EntryFits}
-use Rattle.rules.proofs.Written.{record-sized}
+use Rattle.rules.proofs.Written.{writes-at, record-sized}
 use Rattle.rules.proofs.Counted.{count-stored, drops-whole}
 
 -- R17: before the first record
@@ -35,21 +35,21 @@ lawful-fresh {N} {Z} a b = record {
 }
 
 -- what is left of a commit that found room is within the limit
-apply-few : (S : State) (ps : List Point) → ((e : Entry) → Mem e (writesOf (S .p + 1) ps) → EntryFits e) → Rising (2 ^ 32) 0 (S .kept)
+apply-few : (S : State) (ps : List Point) → ((e : Entry) → Mem e (writesOf S ps) → EntryFits e) → Rising (2 ^ 32) 0 (S .kept)
     → T (not (ltb (S .N) (count S ps))) → length (apply S ps) ≤ S .N
 unfolding apply
 apply-few S ps k r t = rw (drops-whole S ps r k) (if-ind (λ (es : List Entry). length es ≤ S .N) (ltb (S .N) (length (whole S ps)))
     (λ _. omega (arith, nltb→le (S .N) (count S ps) t, count-stored S ps r k)) (λ u. nltb→le (S .N) (length (whole S ps)) u))
 
 -- its keys rise
-apply-rising : (S : State) (ps : List Point) → ((e : Entry) → Mem e (writesOf (S .p + 1) ps) → EntryFits e) → Rising (2 ^ 32) 0 (S .kept) → Rising (2 ^ 32) 0 (apply S ps)
+apply-rising : (S : State) (ps : List Point) → ((e : Entry) → Mem e (writesOf S ps) → EntryFits e) → Rising (2 ^ 32) 0 (S .kept) → Rising (2 ^ 32) 0 (apply S ps)
 unfolding apply
 apply-rising S ps k r = if-ind (λ (es : List Entry). Rising (2 ^ 32) 0 es) (drops S ps)
-    (λ _. storeAll-rising (writesOf (S .p + 1) ps) (λ e m. k e m .0) (keep-rising (young (S .Z) (S .p + 1)) r))
-    (λ _. storeAll-rising (writesOf (S .p + 1) ps) (λ e m. k e m .0) r)
+    (λ _. storeAll-rising (writesOf S ps) (λ e m. k e m .0) (keep-rising (young (S .Z) (S .p + 1)) r))
+    (λ _. storeAll-rising (writesOf S ps) (λ e m. k e m .0) r)
 
 -- R28: a record that writes nothing stores nothing
-pub reads-store-nothing : {S : State} (ps : List Point) → Lawful S → writesOf (S .p + 1) ps ≡ [] → apply S ps ≡ S .kept
+pub reads-store-nothing : {S : State} (ps : List Point) → Lawful S → writesOf S ps ≡ [] → apply S ps ≡ S .kept
 unfolding apply storeAll
 reads-store-nothing {S} ps l e =
     rw (drops-whole S ps (l .rising) (λ x m. elim (subst (λ (ws : List Entry). Mem x ws) e m) [ ]), e, no-lt {a = S .N} {b = length (S .kept)} (l .few))
@@ -67,7 +67,7 @@ lawful-on {S} l p = record {
 }
 
 -- one position on, with the writes
-lawful-commit : {S : State} (ps : List Point) → ((e : Entry) → Mem e (writesOf (S .p + 1) ps) → EntryFits e) → Lawful S → S .p < lastPosition
+lawful-commit : {S : State} (ps : List Point) → ((e : Entry) → Mem e (writesOf S ps) → EntryFits e) → Lawful S → S .p < lastPosition
     → T (not (ltb (S .N) (count S ps))) → Lawful (step S (apply S ps))
 lawful-commit {S} ps k l p room = record {
   limit-N = l .limit-N;
@@ -79,11 +79,11 @@ lawful-commit {S} ps k l p room = record {
   payloads = λ e m. fit e (apply-mem S ps m);
 }
   where
-    at-most : (e : Entry) → Mem e (writesOf (S .p + 1) ps) ⊎ Mem e (S .kept) → (1 ≤ e .position) × (e .position ≤ S .p + 1)
-    at-most e (inl m) = let x = writes-at (S .p + 1) ps m in omega arith
+    at-most : (e : Entry) → Mem e (writesOf S ps) ⊎ Mem e (S .kept) → (1 ≤ e .position) × (e .position ≤ S .p + 1)
+    at-most e (inl m) = let x = writes-at S ps m in omega arith
     at-most e (inr m) = let x = l .positions e m in omega arith
 
-    fit : (e : Entry) → Mem e (writesOf (S .p + 1) ps) ⊎ Mem e (S .kept) → Fits (e .payload)
+    fit : (e : Entry) → Mem e (writesOf S ps) ⊎ Mem e (S .kept) → Fits (e .payload)
     fit e (inl m) = k e m .1
     fit e (inr m) = l .payloads e m
 
@@ -95,7 +95,7 @@ lawful-formed {S} l p (some r) v =
     if-ind G (ltb (S .p) (r .snapshot)) (λ _. lawful-on l p) (λ _.
     if-ind G (ltb (S .Z) (S .p - r .snapshot)) (λ _. lawful-on l p) (λ _.
     if-ind G (conflicts S r) (λ _. lawful-on l p) (λ _.
-    if-ind G (ltb (S .N) (count S (r .points))) (λ _. lawful-on l p) (λ t. lawful-commit (r .points) (record-sized (S .p + 1) (some r) v) l p t))))
+    if-ind G (ltb (S .N) (count S (r .points))) (λ _. lawful-on l p) (λ t. lawful-commit (r .points) (record-sized S (some r) v) l p t))))
   where
     G : Verdict → Type 0
     G a = Lawful (left S (r .points) a)

@@ -17,6 +17,7 @@ pub mod Insert
 pub mod Written
 pub mod LastWrite
 pub mod Lawfulness
+pub mod Deleting
 pub mod Counted
 pub mod Near
 pub mod Passing

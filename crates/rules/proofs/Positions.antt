@@ -14,7 +14,8 @@ use Rattle.rules.specs.State.{Entry, State, lastPosition}
 use Rattle.rules.specs.Verdict.{Verdict, committed, conflict, tooOld, noRoom, malformed, ahead, positionsUsedUp, conflicts, count, refusalOr, judge, formed, pointsOf, verdict, left, next}
 use Rattle.rules.specs.Log.{Log, after, isWriter, wrote, commits}
 use Rattle.rules.proofs.Tests.{if-ind}
-use Rattle.rules.proofs.Stored.{writes-at}
+use Rattle.rules.proofs.Written.{writes-at}
+use Rattle.rules.proofs.Stored.{}
 
 -- POSITIONS
 
@@ -99,14 +100,14 @@ after-append S (m ∷ a) b = after-append (next S m) a b
 -- COMMITTED WRITES
 
 -- what a record wrote stands at its position
-wrote-at : (v : ℕ) (ps : List Point) (a : Verdict) {c : Entry} → Mem c (wrote v ps a) → c .position ≡ v
-wrote-at v ps a {c} = if-ind (λ (ws : List Entry). Mem c ws → c .position ≡ v) (isWriter a) (λ _ m. writes-at v ps m) (λ _ m. elim m [ ])
+wrote-at : (S : State) (ps : List Point) (a : Verdict) {c : Entry} → Mem c (wrote S ps a) → c .position ≡ S .p + 1
+wrote-at S ps a {c} = if-ind (λ (ws : List Entry). Mem c ws → c .position ≡ S .p + 1) (isWriter a) (λ _ m. writes-at S ps m) (λ _ m. elim m [ ])
 
 -- what a log committed stands above where it began
 pub commits-above : (S : State) (ms : Log) {c : Entry} → Mem c (commits S ms) → S .p < c .position
 unfolding commits next
 commits-above S [] m = elim m [ ]
 commits-above S (x ∷ ms) {c} m = ⊎-elim
-    (λ (a : Mem c (wrote (S .p + 1) (pointsOf x) (verdict S x))). omega (arith, wrote-at (S .p + 1) (pointsOf x) (verdict S x) a))
+    (λ (a : Mem c (wrote S (pointsOf x) (verdict S x))). omega (arith, wrote-at S (pointsOf x) (verdict S x) a))
     (λ (b : Mem c (commits (next S x) ms)). omega (arith, left-up S (pointsOf x) (verdict S x), commits-above (next S x) ms b))
-    (in-append (wrote (S .p + 1) (pointsOf x) (verdict S x)) m)
+    (in-append (wrote S (pointsOf x) (verdict S x)) m)

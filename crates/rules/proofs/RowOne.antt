@@ -19,7 +19,8 @@ use Rattle.rules.specs.Log.{Log, after, wrote, commits, between, written
 use Rattle.rules.proofs.Tests.{and-of, left-of, right-of, same, any-of, of-any}
 use Rattle.rules.proofs.Reach.{hits-of, of-hits}
 use Rattle.rules.proofs.Positions.{after-Z}
-use Rattle.rules.proofs.Stored.{Covered, writes-at, apply-mem, apply-covers, apply-self}
+use Rattle.rules.proofs.Written.{writes-at}
+use Rattle.rules.proofs.Stored.{Covered, apply-mem, apply-covers, apply-self}
 
 -- S holds what the committed writes C leave behind
 pub record HoldsWrites (S : State) (C : List Entry) : Type 0 where
@@ -40,23 +41,23 @@ holds-on {S} {C} h = rw append-nil record {
 }
 
 -- a record that commits
-holds-commit : {S : State} {C : List Entry} (ps : List Point) → HoldsWrites S C → HoldsWrites (step S (apply S ps)) (C ++ writesOf (S .p + 1) ps)
+holds-commit : {S : State} {C : List Entry} (ps : List Point) → HoldsWrites S C → HoldsWrites (step S (apply S ps)) (C ++ writesOf S ps)
 holds-commit {S} {C} ps h = record { bound = λ c m. bound′ c (in-append C m); written = λ e m. written′ e (apply-mem S ps m); covered = λ c m. covered′ c (in-append C m) }
   where
-    bound′ : (c : Entry) → Mem c C ⊎ Mem c (writesOf (S .p + 1) ps) → c .position ≤ S .p + 1
+    bound′ : (c : Entry) → Mem c C ⊎ Mem c (writesOf S ps) → c .position ≤ S .p + 1
     bound′ c (inl m) = omega (arith, h .bound c m)
-    bound′ c (inr m) = omega (arith, writes-at (S .p + 1) ps m)
+    bound′ c (inr m) = omega (arith, writes-at S ps m)
 
-    written′ : (e : Entry) → Mem e (writesOf (S .p + 1) ps) ⊎ Mem e (S .kept) → Mem e (C ++ writesOf (S .p + 1) ps)
+    written′ : (e : Entry) → Mem e (writesOf S ps) ⊎ Mem e (S .kept) → Mem e (C ++ writesOf S ps)
     written′ e (inl m) = in-right C m
-    written′ e (inr m) = in-left (writesOf (S .p + 1) ps) (h .written e m)
+    written′ e (inr m) = in-left (writesOf S ps) (h .written e m)
 
-    covered′ : (c : Entry) → Mem c C ⊎ Mem c (writesOf (S .p + 1) ps) → S .p + 1 < c .position + S .Z → Covered (apply S ps) (c .key) (c .position)
+    covered′ : (c : Entry) → Mem c C ⊎ Mem c (writesOf S ps) → S .p + 1 < c .position + S .Z → Covered (apply S ps) (c .key) (c .position)
     covered′ c (inl m) l = apply-covers S ps (omega (arith, h .bound c m)) l (h .covered c m (omega arith))
     covered′ c (inr m) l = apply-self S ps m
 
 -- a record with any verdict
-holds-left : {S : State} {C : List Entry} (ps : List Point) → HoldsWrites S C → (a : Verdict) → HoldsWrites (left S ps a) (C ++ wrote (S .p + 1) ps a)
+holds-left : {S : State} {C : List Entry} (ps : List Point) → HoldsWrites S C → (a : Verdict) → HoldsWrites (left S ps a) (C ++ wrote S ps a)
 holds-left ps h committed = holds-commit ps h
 holds-left ps h conflict = holds-on h
 holds-left ps h tooOld = holds-on h

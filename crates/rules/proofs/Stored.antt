@@ -7,11 +7,11 @@ use mathlib.Core.Logic.{_⊎_, inl, inr}
 use mathlib.Core.List.{List, [], _∷_, List·Memᴰ as Mem, List·Memᴰ·head as here, List·Memᴰ·tail as there}
 use lib.Dec.{T, ltb, nltb→le, lt→ltb}
 use Rattle.record.specs.declared.point.Point.{Point}
-use Rattle.record.specs.declared.point.Point.the-variants.{Read, Put, Delete}
 use Rattle.rules.specs.Lists.{keep}
 use Rattle.rules.specs.State.{Entry, State}
 use Rattle.rules.specs.Footprint.{writesOf}
 use Rattle.rules.specs.Verdict.{store, storeAll, young, drops, apply}
+use Rattle.rules.proofs.Written.{writes-at}
 use Rattle.rules.proofs.Tests.{if-ind, or-right, keep-mem, mem-keep}
 
 -- WHAT IS STORED
@@ -19,15 +19,6 @@ use Rattle.rules.proofs.Tests.{if-ind, or-right, keep-mem, mem-keep}
 -- the entries hold one of key k at position w or later
 abbrev pub Covered : List Entry → ℕ → ℕ → Type 0
 Covered es k w = (e : Entry) × Mem e es × (e .key ≡ k) × (w ≤ e .position)
-
--- writes stand at the position of their record
-pub writes-at : (v : ℕ) (ps : List Point) {x : Entry} → Mem x (writesOf v ps) → x .position ≡ v
-writes-at v [] m = elim m [ ]
-writes-at v (Read k ∷ ps) m = writes-at v ps m
-writes-at v (Put k y ∷ ps) (here e) = ap (λ (x : Entry). x .position) e
-writes-at v (Put k y ∷ ps) (there m) = writes-at v ps m
-writes-at v (Delete k ∷ ps) (here e) = ap (λ (x : Entry). x .position) e
-writes-at v (Delete k ∷ ps) (there m) = writes-at v ps m
 
 -- what is there was stored or was there before
 pub store-mem : (e : Entry) (es : List Entry) {x : Entry} → Mem x (store e es) → (x ≡ e) ⊎ Mem x es
@@ -111,31 +102,31 @@ young-in-zone z v e h = search (or-right, lt→ltb)
 
 module _ (S : State) (ps : List Point) where
   -- what is kept after a commit was written or kept before
-  pub apply-mem : {x : Entry} → Mem x (apply S ps) → Mem x (writesOf (S .p + 1) ps) ⊎ Mem x (S .kept)
+  pub apply-mem : {x : Entry} → Mem x (apply S ps) → Mem x (writesOf S ps) ⊎ Mem x (S .kept)
   unfolding apply
-  apply-mem {x} = if-ind (λ l. Mem x l → Mem x (writesOf (S .p + 1) ps) ⊎ Mem x (S .kept)) (drops S ps)
-      (λ _ m. thin (storeAll-mem (writesOf (S .p + 1) ps) (keep (young (S .Z) (S .p + 1)) (S .kept)) m))
-      (λ _ m. storeAll-mem (writesOf (S .p + 1) ps) (S .kept) m)
+  apply-mem {x} = if-ind (λ l. Mem x l → Mem x (writesOf S ps) ⊎ Mem x (S .kept)) (drops S ps)
+      (λ _ m. thin (storeAll-mem (writesOf S ps) (keep (young (S .Z) (S .p + 1)) (S .kept)) m))
+      (λ _ m. storeAll-mem (writesOf S ps) (S .kept) m)
     where
-      thin : Mem x (writesOf (S .p + 1) ps) ⊎ Mem x (keep (young (S .Z) (S .p + 1)) (S .kept)) → Mem x (writesOf (S .p + 1) ps) ⊎ Mem x (S .kept)
+      thin : Mem x (writesOf S ps) ⊎ Mem x (keep (young (S .Z) (S .p + 1)) (S .kept)) → Mem x (writesOf S ps) ⊎ Mem x (S .kept)
       thin (inl m) = inl m
       thin (inr m) = inr (keep-mem (young (S .Z) (S .p + 1)) (S .kept) m)
 
   -- no write is older than p + 1
-  at-v : {w : ℕ} → w ≤ S .p + 1 → (x : Entry) → Mem x (writesOf (S .p + 1) ps) → w ≤ x .position
-  at-v h x m = omega (arith, writes-at (S .p + 1) ps m)
+  at-v : {w : ℕ} → w ≤ S .p + 1 → (x : Entry) → Mem x (writesOf S ps) → w ≤ x .position
+  at-v h x m = omega (arith, writes-at S ps m)
 
   -- what is not old at p + 1 is still covered
   pub apply-covers : {k w : ℕ} → w ≤ S .p + 1 → S .p + 1 < w + S .Z → Covered (S .kept) k w → Covered (apply S ps) k w
   unfolding apply
   apply-covers {k} {w} h l c = if-ind (λ es. Covered es k w) (drops S ps)
-      (λ _. storeAll-covers (writesOf (S .p + 1) ps) _ (at-v h)
+      (λ _. storeAll-covers (writesOf S ps) _ (at-v h)
       (c .0, mem-keep (young (S .Z) (S .p + 1)) (S .kept) (c .1) (young-in-zone (S .Z) (S .p + 1) (c .0) (omega (arith, c .3))), c .2, c .3))
-      (λ _. storeAll-covers (writesOf (S .p + 1) ps) _ (at-v h) c)
+      (λ _. storeAll-covers (writesOf S ps) _ (at-v h) c)
 
   -- what was written is covered
-  pub apply-self : {x : Entry} → Mem x (writesOf (S .p + 1) ps) → Covered (apply S ps) (x .key) (x .position)
+  pub apply-self : {x : Entry} → Mem x (writesOf S ps) → Covered (apply S ps) (x .key) (x .position)
   unfolding apply
   apply-self {x} m = if-ind (λ es. Covered es (x .key) (x .position)) (drops S ps)
-      (λ _. storeAll-self (writesOf (S .p + 1) ps) _ m (at-v (omega (arith, writes-at (S .p + 1) ps m))))
-      (λ _. storeAll-self (writesOf (S .p + 1) ps) _ m (at-v (omega (arith, writes-at (S .p + 1) ps m))))
+      (λ _. storeAll-self (writesOf S ps) _ m (at-v (omega (arith, writes-at S ps m))))
+      (λ _. storeAll-self (writesOf S ps) _ m (at-v (omega (arith, writes-at S ps m))))

@@ -20,7 +20,7 @@ use Rattle.rules.proofs.Insert.{insertAll, insertAll-treeOf}
 -- the tree after a commit, from the tree before it
 pub tree-commit : {S : State} {r : Rec} → Lawful S → Valid r
     → treeOf 32 0 (apply S (r .points))
-    ≡ insertAll 32 0 (writesOf (S .p + 1) (r .points))
+    ≡ insertAll 32 0 (writesOf S (r .points))
     (if drops S (r .points) then dropOld (S .Z) (S .p + 1) (treeOf 32 0 (S .kept)) else treeOf 32 0 (S .kept))
 unfolding apply
 tree-commit {S} {r} l v = ⊎-elim
@@ -30,7 +30,7 @@ tree-commit {S} {r} l v = ⊎-elim
     (test (drops S (r .points)))
   where
     ws : List Entry
-    ws = writesOf (S .p + 1) (r .points)
+    ws = writesOf S (r .points)
 
     keys : (w : Entry) → Mem w ws → (0 ≤ w .key) × (w .key < 2 ^ 32)
-    keys w m = (omega arith, written-sized (S .p + 1) 0 (r .points) (v .rising) w m .0)
+    keys w m = (omega arith, written-sized S 0 (r .points) (v .rising) w m .0)

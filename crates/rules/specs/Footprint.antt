@@ -1,16 +1,17 @@
 -- What a record names or scans, and what it writes. Everything else cites these two definitions, `reach` and `writesOf`.
 -- Assumes nothing: these are definitions.
-use Prim.Native.Nat.{ℕ}
-use mathlib.Core.Bool.{Bool, _&&_}
+use Prim.Native.Nat.{ℕ, _+_}
+use mathlib.Core.Bool.{Bool, true, false, _&&_}
 use mathlib.Core.List.{List, [], _∷_, _++_, map}
-use mathlib.Core.Option.{none, some}
+use mathlib.Core.Option.{Option, none, some}
 use lib.Dec.{ltb, leb}
 use Rattle.record.specs.Record.{Rec, keyOf}
 use Rattle.record.specs.declared.point.Point.{Point}
 use Rattle.record.specs.declared.point.Point.the-variants.{Read, Put, Delete}
 use Rattle.record.specs.declared.point.Scan.{Scan}
-use Rattle.rules.specs.Lists.{any}
-use Rattle.rules.specs.State.{Entry}
+use Rattle.rules.specs.Lists.{any, keep}
+use Rattle.rules.specs.State.{Entry, State, isLive}
+use Rattle.rules.specs.Lookup.{find}
 
 -- R21: a point names its key: it is the scan from the key to the key
 abbrev pub named : Point → Scan
@@ -28,10 +29,24 @@ lies from to c = ltb (c .low) to && leb from (c .high)
 unfoldable pub meets : List Scan → ℕ → ℕ → Bool
 meets f from to = any (lies from to) f
 
--- R22 and R28: what a record writes at position v. A put stores its payload, a delete a tombstone, whether or not there was anything under
--- the key; anything else is passed over
-abbrev pub writesOf : ℕ → List Point → List Entry
-writesOf v [] = []
-writesOf v (Read k ∷ ps) = writesOf v ps
-writesOf v (Put k x ∷ ps) = record { key = k; position = v; payload = some x } ∷ writesOf v ps
-writesOf v (Delete k ∷ ps) = record { key = k; position = v; payload = none } ∷ writesOf v ps
+-- R28: what these points store at position v: a put its payload, a delete a tombstone; anything else is passed over
+abbrev pub storedAt : ℕ → List Point → List Entry
+storedAt v [] = []
+storedAt v (Read k ∷ ps) = storedAt v ps
+storedAt v (Put k x ∷ ps) = record { key = k; position = v; payload = some x } ∷ storedAt v ps
+storedAt v (Delete k ∷ ps) = record { key = k; position = v; payload = none } ∷ storedAt v ps
+
+-- R17: a key under which this is found is live: it is kept, and has no tombstone
+abbrev pub liveAt : Option Entry → Bool
+liveAt none = false
+liveAt (some e) = isLive (e .payload)
+
+-- R22: a put writes its key, and a delete does if the key is live in the state
+abbrev pub writes : State → Point → Bool
+writes S (Read k) = false
+writes S (Put k x) = true
+writes S (Delete k) = liveAt (find k (S .kept))
+
+-- R22 and R28: what the points of a record write at p + 1, for the state at p
+unfoldable pub writesOf : State → List Point → List Entry
+writesOf S ps = storedAt (S .p + 1) (keep (writes S) ps)

@@ -2,6 +2,7 @@ pub mod Lists
 pub mod State
 pub mod Footprint
 pub mod Verdict
+pub mod Before
 pub mod Log
 pub mod Tree
 pub mod Shape

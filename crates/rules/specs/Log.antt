@@ -47,14 +47,14 @@ isWriter malformed = false
 isWriter ahead = false
 isWriter positionsUsedUp = false
 
--- R25: what the record at v wrote, by its answer
-abbrev pub wrote : ℕ → List Point → Verdict → List Entry
-wrote v ps a = if isWriter a then writesOf v ps else []
+-- R25: what the record after state S wrote, by its answer
+abbrev pub wrote : State → List Point → Verdict → List Entry
+wrote S ps a = if isWriter a then writesOf S ps else []
 
 -- R30: the writes of the committed records, in log order
 unfoldable pub commits : State → Log → List Entry
 commits S [] = []
-commits S (m ∷ ms) = wrote (S .p + 1) (pointsOf m) (verdict S m) ++ commits (next S m) ms
+commits S (m ∷ ms) = wrote S (pointsOf m) (verdict S m) ++ commits (next S m) ms
 
 -- R25: a write of a key named or scanned, at one of s + 1 to p
 abbrev pub between : ℕ → ℕ → List Scan → Entry → Bool

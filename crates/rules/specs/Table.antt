@@ -1,4 +1,4 @@
--- The log to check by (R44): eleven rows, with their bytes.
+-- The logs to check by, with their bytes: eleven rows (R44), and eight of deletes (R55).
 -- Assumes nothing: these are definitions.
 use Prim.Native.Nat.{ℕ, _+_}
 use mathlib.Core.Path.{_≡_}
@@ -69,6 +69,34 @@ rows =
     (0x00 ∷ 0x07 ∷ 0x01 ∷ 0x00 ∷ 0x00 ∷ 0x00 ∷ 0x0A ∷ 0x00 ∷ 0x00 ∷ [])
     Names.committed 1 ∷ []
 
+-- R55: eight rows of deletes that write and deletes that do not, for N = 3 and Z = 4
+unfoldable pub deleteRows : List Row
+deleteRows =
+    row 1 0 (Put 10 100 ∷ Put 20 200 ∷ []) []
+    (0x00 ∷ 0x21 ∷ 0x01 ∷ 0x00 ∷ 0x00 ∷ 0x00 ∷ 0x00 ∷ 0x02 ∷ 0x00 ∷ 0x02 ∷ 0x00 ∷ 0x00 ∷ 0x00 ∷ 0x0A ∷ 0x00 ∷ 0x00 ∷ 0x00 ∷ 0x00 ∷ 0x00 ∷ 0x00 ∷ 0x00 ∷ 0x64 ∷ 0x02 ∷ 0x00 ∷ 0x00 ∷ 0x00 ∷ 0x14 ∷ 0x00 ∷ 0x00 ∷ 0x00 ∷ 0x00 ∷ 0x00 ∷ 0x00 ∷ 0x00 ∷ 0xC8 ∷ [])
+    Names.committed 0 ∷
+    row 2 1 (Delete 15 ∷ []) []
+    (0x00 ∷ 0x0C ∷ 0x01 ∷ 0x00 ∷ 0x00 ∷ 0x00 ∷ 0x01 ∷ 0x01 ∷ 0x00 ∷ 0x03 ∷ 0x00 ∷ 0x00 ∷ 0x00 ∷ 0x0F ∷ [])
+    Names.committed 1 ∷
+    row 3 1 [] (scan 11 19 ∷ [])
+    (0x00 ∷ 0x0F ∷ 0x01 ∷ 0x00 ∷ 0x00 ∷ 0x00 ∷ 0x01 ∷ 0x00 ∷ 0x01 ∷ 0x00 ∷ 0x00 ∷ 0x00 ∷ 0x0B ∷ 0x00 ∷ 0x00 ∷ 0x00 ∷ 0x13 ∷ [])
+    Names.committed 1 ∷
+    row 4 3 (Delete 20 ∷ Put 30 300 ∷ []) []
+    (0x00 ∷ 0x19 ∷ 0x01 ∷ 0x00 ∷ 0x00 ∷ 0x00 ∷ 0x03 ∷ 0x02 ∷ 0x00 ∷ 0x03 ∷ 0x00 ∷ 0x00 ∷ 0x00 ∷ 0x14 ∷ 0x02 ∷ 0x00 ∷ 0x00 ∷ 0x00 ∷ 0x1E ∷ 0x00 ∷ 0x00 ∷ 0x00 ∷ 0x00 ∷ 0x00 ∷ 0x00 ∷ 0x01 ∷ 0x2C ∷ [])
+    Names.committed 1 ∷
+    row 5 3 (Delete 20 ∷ []) []
+    (0x00 ∷ 0x0C ∷ 0x01 ∷ 0x00 ∷ 0x00 ∷ 0x00 ∷ 0x03 ∷ 0x01 ∷ 0x00 ∷ 0x03 ∷ 0x00 ∷ 0x00 ∷ 0x00 ∷ 0x14 ∷ [])
+    Names.conflict 4 ∷
+    row 6 5 (Delete 25 ∷ []) []
+    (0x00 ∷ 0x0C ∷ 0x01 ∷ 0x00 ∷ 0x00 ∷ 0x00 ∷ 0x05 ∷ 0x01 ∷ 0x00 ∷ 0x03 ∷ 0x00 ∷ 0x00 ∷ 0x00 ∷ 0x19 ∷ [])
+    Names.committed 1 ∷
+    row 7 6 (Delete 20 ∷ []) []
+    (0x00 ∷ 0x0C ∷ 0x01 ∷ 0x00 ∷ 0x00 ∷ 0x00 ∷ 0x06 ∷ 0x01 ∷ 0x00 ∷ 0x03 ∷ 0x00 ∷ 0x00 ∷ 0x00 ∷ 0x14 ∷ [])
+    Names.committed 1 ∷
+    row 8 7 (Put 40 400 ∷ []) []
+    (0x00 ∷ 0x14 ∷ 0x01 ∷ 0x00 ∷ 0x00 ∷ 0x00 ∷ 0x07 ∷ 0x01 ∷ 0x00 ∷ 0x02 ∷ 0x00 ∷ 0x00 ∷ 0x00 ∷ 0x28 ∷ 0x00 ∷ 0x00 ∷ 0x00 ∷ 0x00 ∷ 0x00 ∷ 0x00 ∷ 0x01 ∷ 0x90 ∷ [])
+    Names.committed 1 ∷ []
+
 -- R41: what is told of a record: position, answer, looks
 pub record Line : Type 0 where
   pub v : ℕ
@@ -93,14 +121,20 @@ recOf x = x .rec
 abbrev pub bytesIn : Row → List ℕ
 bytesIn x = x .bytes
 
--- R44: the eleven rows under a single statement: each record is these bytes and parses from them, melding the bytes tells what the table
--- tells, and the keys kept at the end
+-- R44, R55: what a table of rows says, for N = 3 and Z = 4: each record is these bytes and parses from them, melding the bytes from a new pool tells
+-- what the table tells, and these keys are kept at the end
+pub record Holds (xs : List Row) (keys : List ℕ) : Type 0 where
+  pub written : map bytesOf (map recOf xs) ≡ map bytesIn xs
+  pub read : map parse (map bytesIn xs) ≡ map some (map recOf xs)
+  pub melded : run (fresh 3 4) (map bytesIn xs) ≡ map lineOf xs
+  pub kept-keys : map keyIn (after (fresh 3 4) (map parse (map bytesIn xs)) .kept) ≡ keys
+
+-- R44 and R55 under a single statement
 pub record Table : Type 0 where
-  pub written : map bytesOf (map recOf rows) ≡ map bytesIn rows
-  pub read : map parse (map bytesIn rows) ≡ map some (map recOf rows)
-  pub melded : run (fresh 3 4) (map bytesIn rows) ≡ map lineOf rows
-  -- afterwards 10, 30 and 40 are kept
-  pub kept-keys : map keyIn (after (fresh 3 4) (map parse (map bytesIn rows)) .kept) ≡ 10 ∷ 30 ∷ 40 ∷ []
+  -- the eleven rows; afterwards 10, 30 and 40 are kept
+  pub eleven : Holds rows (10 ∷ 30 ∷ 40 ∷ [])
+  -- the eight rows of deletes; afterwards 10, 30 and 40 are kept
+  pub deletes : Holds deleteRows (10 ∷ 30 ∷ 40 ∷ [])
   -- two records byte by byte: snapshot 1 with read 30, and snapshot 1 with put 30 = 300 and scan 11 to 19
   pub first : bytesOf (record { snapshot = 1; points = Read 30 ∷ []; scans = [] })
       ≡ 0x00 ∷ 0x0C ∷ 0x01 ∷ 0x00 ∷ 0x00 ∷ 0x00 ∷ 0x01 ∷ 0x01 ∷ 0x00 ∷ 0x01 ∷ 0x00 ∷ 0x00 ∷ 0x00 ∷ 0x1E ∷ []

@@ -77,17 +77,17 @@ storeAll (e ∷ es) kept = storeAll es (store e kept)
 unfoldable pub young : ℕ → ℕ → Entry → Bool
 young Z v e = isLive (e .payload) || ltb v (e .position + Z)
 
--- R28: each put and delete stored at v, in all that is kept
+-- R28: what the record writes stored at v, in all that is kept
 abbrev pub whole : State → List Point → List Entry
-whole S ps = storeAll (writesOf (S .p + 1) ps) (S .kept)
+whole S ps = storeAll (writesOf S ps) (S .kept)
 
 -- R28, where the old tombstones are dropped first
 abbrev pub lean : State → List Point → List Entry
-lean S ps = storeAll (writesOf (S .p + 1) ps) (keep (young (S .Z) (S .p + 1)) (S .kept))
+lean S ps = storeAll (writesOf S ps) (keep (young (S .Z) (S .p + 1)) (S .kept))
 
 -- the keys that R27 takes: the kept ones and those that the record writes
 abbrev pub keptOrWritten : State → List Point → List ℕ
-keptOrWritten S ps = map keyIn (S .kept) ++ map keyIn (writesOf (S .p + 1) ps)
+keptOrWritten S ps = map keyIn (S .kept) ++ map keyIn (writesOf S ps)
 
 -- R27: the old tombstones are dropped if these keys, each counted once, are more than N
 unfoldable pub drops : State → List Point → Bool
@@ -101,7 +101,7 @@ apply S ps = if drops S ps then lean S ps else whole S ps
 
 -- the keys that R26 takes: the live ones, those with a tombstone w with w + Z > v, and those that the record writes
 abbrev pub counted : State → List Point → List ℕ
-counted S ps = map keyIn (keep (young (S .Z) (S .p + 1)) (S .kept)) ++ map keyIn (writesOf (S .p + 1) ps)
+counted S ps = map keyIn (keep (young (S .Z) (S .p + 1)) (S .kept)) ++ map keyIn (writesOf S ps)
 
 -- R26: how many keys have to find room
 unfoldable pub count : State → List Point → ℕ

@@ -42,26 +42,26 @@ same-length-5 c = search needs
 returns-2 : tie.Need-returns-2
 returns-2 c = is-malformed _ (c .before .before .before .before .before .before .before .before .before .before .before .before .before .before .before .before .before .before .before .before .before .before .before .before .before .before .before .before .before .before .args .bytes .now) _ (c .before .before .before .before .before .before .before .before .before .before .before .before .before .before .before .before .before .before .before .before .before .before .read-header .ensures) (c .before .before .before .before .before .before .before .before .before .before .before .before .before .before .before .before .before .before .before .before .before .before .before .before .before .before .before .before .before .before .pre .0) (c .before .before .before .before .before .before .before .before .before .before .before .before .before .before .before .before .before .before .before .before .if1 .left) (read-none _ _ _ _ _ _ _ _ _ _ _ (record { byte = λ i. omega (arith, c .before .before .before .before .before .before .before .before .before .before .before .before .before .before .before .before .before .before .before .before .before .before .before .before .before .before .before .before .shared-slice-known2 .given i) }) (c .before .before .before .before .before .before .before .before .before .before .before .before .before .before .before .before .before .before .before .before .before .before .before .before .before .before .before .before .before .before .pre .1) _ (c .before .before .before .before .before .before .before .before .before .before .before .before .before .before .read .ensures) (c .before .if2 .taken)) _ (c .plain2 .ensures)
 
-slice-reshare-prefix-explain-lists : tie.Need-slice-reshare-prefix-explain-lists
-slice-reshare-prefix-explain-lists c = omega (arith, (read-some _ _ _ _ _ _ _ _ _ _ _ (record { byte = λ i. omega (arith, c .before .before .before .before .before .before .before .before .before .before .before .before .before .before .before .before .before .before .before .before .before .before .before .before .before .before .before .shared-slice-known2 .given i) }) (c .before .before .before .before .before .before .before .before .before .before .before .before .before .before .before .before .before .before .before .before .before .before .before .before .before .before .before .before .before .pre .1) _ (c .before .before .before .before .before .before .before .before .before .before .before .before .before .read .ensures) (c .if2 .left)) .kinds-inside, c .before .before .before .before .before .before .before .before .before .before .before .before .before .read .kept .1 .0)
+slice-relend-prefix-explain-lists : tie.Need-slice-relend-prefix-explain-lists
+slice-relend-prefix-explain-lists c = omega (arith, (read-some _ _ _ _ _ _ _ _ _ _ _ (record { byte = λ i. omega (arith, c .before .before .before .before .before .before .before .before .before .before .before .before .before .before .before .before .before .before .before .before .before .before .before .before .before .before .before .shared-slice-known2 .given i) }) (c .before .before .before .before .before .before .before .before .before .before .before .before .before .before .before .before .before .before .before .before .before .before .before .before .before .before .before .before .before .pre .1) _ (c .before .before .before .before .before .before .before .before .before .before .before .before .before .read .ensures) (c .if2 .left)) .kinds-inside, c .before .before .before .before .before .before .before .before .before .before .before .before .before .read .kept .1 .0)
 
 slice-aggregate-explain-lists : tie.Need-slice-aggregate-explain-lists
 slice-aggregate-explain-lists c = sym (length-take-le _ _ (omega (arith, (read-some _ _ _ _ _ _ _ _ _ _ _ (record { byte = λ i. omega (arith, c .before .before .before .before .before .before .before .before .before .before .before .before .before .before .before .before .before .before .before .before .before .before .before .before .before .before .before .before .shared-slice-known2 .given i) }) (c .before .before .before .before .before .before .before .before .before .before .before .before .before .before .before .before .before .before .before .before .before .before .before .before .before .before .before .before .before .before .pre .1) _ (c .before .before .before .before .before .before .before .before .before .before .before .before .before .before .read .ensures) (c .before .if2 .left)) .kinds-inside, c .before .before .before .before .before .before .before .before .before .before .before .before .before .before .read .kept .1 .0)))
 
-slice-reshare-prefix-explain-lists-2 : tie.Need-slice-reshare-prefix-explain-lists-2
-slice-reshare-prefix-explain-lists-2 c = omega (arith, (read-some _ _ _ _ _ _ _ _ _ _ _ (record { byte = λ i. omega (arith, c .before .before .before .before .before .before .before .before .before .before .before .before .before .before .before .before .before .before .before .before .before .before .before .before .before .before .before .before .shared-slice-known2 .given i) }) (c .before .before .before .before .before .before .before .before .before .before .before .before .before .before .before .before .before .before .before .before .before .before .before .before .before .before .before .before .before .before .pre .1) _ (c .before .before .before .before .before .before .before .before .before .before .before .before .before .before .read .ensures) (c .before .if2 .left)) .keys-inside, c .before .before .before .before .before .before .before .before .before .before .before .before .before .before .read .kept .1 .1 .0)
+slice-reshare-prefix-explain-lists : tie.Need-slice-reshare-prefix-explain-lists
+slice-reshare-prefix-explain-lists c = omega (arith, (read-some _ _ _ _ _ _ _ _ _ _ _ (record { byte = λ i. omega (arith, c .before .before .before .before .before .before .before .before .before .before .before .before .before .before .before .before .before .before .before .before .before .before .before .before .before .before .before .before .shared-slice-known2 .given i) }) (c .before .before .before .before .before .before .before .before .before .before .before .before .before .before .before .before .before .before .before .before .before .before .before .before .before .before .before .before .before .before .pre .1) _ (c .before .before .before .before .before .before .before .before .before .before .before .before .before .before .read .ensures) (c .before .if2 .left)) .keys-inside, c .before .before .before .before .before .before .before .before .before .before .before .before .before .before .read .kept .1 .1 .0)
 
 slice-aggregate-explain-lists-2 : tie.Need-slice-aggregate-explain-lists-2
 slice-aggregate-explain-lists-2 c = sym (length-take-le _ _ (omega (arith, (read-some _ _ _ _ _ _ _ _ _ _ _ (record { byte = λ i. omega (arith, c .before .before .before .before .before .before .before .before .before .before .before .before .before .before .before .before .before .before .before .before .before .before .before .before .before .before .before .before .before .shared-slice-known2 .given i) }) (c .before .before .before .before .before .before .before .before .before .before .before .before .before .before .before .before .before .before .before .before .before .before .before .before .before .before .before .before .before .before .before .pre .1) _ (c .before .before .before .before .before .before .before .before .before .before .before .before .before .before .before .read .ensures) (c .before .before .if2 .left)) .keys-inside, c .before .before .before .before .before .before .before .before .before .before .before .before .before .before .before .read .kept .1 .1 .0)))
 
-slice-reshare-prefix-explain-lists-3 : tie.Need-slice-reshare-prefix-explain-lists-3
-slice-reshare-prefix-explain-lists-3 c = omega (arith, (read-some _ _ _ _ _ _ _ _ _ _ _ (record { byte = λ i. omega (arith, c .before .before .before .before .before .before .before .before .before .before .before .before .before .before .before .before .before .before .before .before .before .before .before .before .before .before .before .before .before .shared-slice-known2 .given i) }) (c .before .before .before .before .before .before .before .before .before .before .before .before .before .before .before .before .before .before .before .before .before .before .before .before .before .before .before .before .before .before .before .pre .1) _ (c .before .before .before .before .before .before .before .before .before .before .before .before .before .before .before .read .ensures) (c .before .before .if2 .left)) .lows-inside, c .before .before .before .before .before .before .before .before .before .before .before .before .before .before .before .read .kept .1 .1 .1 .1 .0)
+slice-reshare-prefix-explain-lists-2 : tie.Need-slice-reshare-prefix-explain-lists-2
+slice-reshare-prefix-explain-lists-2 c = omega (arith, (read-some _ _ _ _ _ _ _ _ _ _ _ (record { byte = λ i. omega (arith, c .before .before .before .before .before .before .before .before .before .before .before .before .before .before .before .before .before .before .before .before .before .before .before .before .before .before .before .before .before .shared-slice-known2 .given i) }) (c .before .before .before .before .before .before .before .before .before .before .before .before .before .before .before .before .before .before .before .before .before .before .before .before .before .before .before .before .before .before .before .pre .1) _ (c .before .before .before .before .before .before .before .before .before .before .before .before .before .before .before .read .ensures) (c .before .before .if2 .left)) .lows-inside, c .before .before .before .before .before .before .before .before .before .before .before .before .before .before .before .read .kept .1 .1 .1 .1 .0)
 
 slice-aggregate-explain-lists-3 : tie.Need-slice-aggregate-explain-lists-3
 slice-aggregate-explain-lists-3 c = sym (length-take-le _ _ (omega (arith, (read-some _ _ _ _ _ _ _ _ _ _ _ (record { byte = λ i. omega (arith, c .before .before .before .before .before .before .before .before .before .before .before .before .before .before .before .before .before .before .before .before .before .before .before .before .before .before .before .before .before .before .shared-slice-known2 .given i) }) (c .before .before .before .before .before .before .before .before .before .before .before .before .before .before .before .before .before .before .before .before .before .before .before .before .before .before .before .before .before .before .before .before .pre .1) _ (c .before .before .before .before .before .before .before .before .before .before .before .before .before .before .before .before .read .ensures) (c .before .before .before .if2 .left)) .lows-inside, c .before .before .before .before .before .before .before .before .before .before .before .before .before .before .before .before .read .kept .1 .1 .1 .1 .0)))
 
-slice-reshare-prefix-explain-lists-4 : tie.Need-slice-reshare-prefix-explain-lists-4
-slice-reshare-prefix-explain-lists-4 c = omega (arith, (read-some _ _ _ _ _ _ _ _ _ _ _ (record { byte = λ i. omega (arith, c .before .before .before .before .before .before .before .before .before .before .before .before .before .before .before .before .before .before .before .before .before .before .before .before .before .before .before .before .before .before .shared-slice-known2 .given i) }) (c .before .before .before .before .before .before .before .before .before .before .before .before .before .before .before .before .before .before .before .before .before .before .before .before .before .before .before .before .before .before .before .before .pre .1) _ (c .before .before .before .before .before .before .before .before .before .before .before .before .before .before .before .before .read .ensures) (c .before .before .before .if2 .left)) .highs-inside, c .before .before .before .before .before .before .before .before .before .before .before .before .before .before .before .before .read .kept .1 .1 .1 .1 .1 .0)
+slice-reshare-prefix-explain-lists-3 : tie.Need-slice-reshare-prefix-explain-lists-3
+slice-reshare-prefix-explain-lists-3 c = omega (arith, (read-some _ _ _ _ _ _ _ _ _ _ _ (record { byte = λ i. omega (arith, c .before .before .before .before .before .before .before .before .before .before .before .before .before .before .before .before .before .before .before .before .before .before .before .before .before .before .before .before .before .before .shared-slice-known2 .given i) }) (c .before .before .before .before .before .before .before .before .before .before .before .before .before .before .before .before .before .before .before .before .before .before .before .before .before .before .before .before .before .before .before .before .pre .1) _ (c .before .before .before .before .before .before .before .before .before .before .before .before .before .before .before .before .read .ensures) (c .before .before .before .if2 .left)) .highs-inside, c .before .before .before .before .before .before .before .before .before .before .before .before .before .before .before .before .read .kept .1 .1 .1 .1 .1 .0)
 
 slice-aggregate-explain-lists-4 : tie.Need-slice-aggregate-explain-lists-4
 slice-aggregate-explain-lists-4 c = sym (length-take-le _ _ (omega (arith, (read-some _ _ _ _ _ _ _ _ _ _ _ (record { byte = λ i. omega (arith, c .before .before .before .before .before .before .before .before .before .before .before .before .before .before .before .before .before .before .before .before .before .before .before .before .before .before .before .before .before .before .before .shared-slice-known2 .given i) }) (c .before .before .before .before .before .before .before .before .before .before .before .before .before .before .before .before .before .before .before .before .before .before .before .before .before .before .before .before .before .before .before .before .before .pre .1) _ (c .before .before .before .before .before .before .before .before .before .before .before .before .before .before .before .before .before .read .ensures) (c .before .before .before .before .if2 .left)) .highs-inside, c .before .before .before .before .before .before .before .before .before .before .before .before .before .before .before .before .before .read .kept .1 .1 .1 .1 .1 .0)))
@@ -85,7 +85,7 @@ same-length-10 : tie.Need-same-length-10
 same-length-10 c = search needs
 
 returns-3 : tie.Need-returns-3
-returns-3 c = let g = (read-some _ _ _ _ _ _ _ _ _ _ _ (record { byte = λ i. omega (arith, c .before .before .before .before .before .before .before .before .before .before .before .before .before .before .before .before .before .before .before .before .before .before .before .before .before .before .before .before .before .before .before .before .shared-slice-known2 .given i) }) (c .before .before .before .before .before .before .before .before .before .before .before .before .before .before .before .before .before .before .before .before .before .before .before .before .before .before .before .before .before .before .before .before .before .before .pre .1) _ (c .before .before .before .before .before .before .before .before .before .before .before .before .before .before .before .before .before .before .read .ensures) (c .before .before .before .before .before .if2 .left)) in lists-explained _ (c .before .before .before .before .before .before .before .before .before .before .before .before .before .before .before .before .before .before .before .before .before .before .before .before .before .before .before .before .before .before .before .before .before .before .args .bytes .now) _ (c .before .before .before .before .before .before .before .before .before .before .before .before .before .before .before .before .before .before .before .before .before .before .before .before .before .before .read-header .ensures) (c .before .before .before .before .before .before .before .before .before .before .before .before .before .before .before .before .before .before .before .before .before .before .before .before .before .before .before .before .before .before .before .before .before .before .pre .0) (c .before .before .before .before .before .before .before .before .before .before .before .before .before .before .before .before .before .before .before .before .before .before .before .before .if1 .left) _ _ _ _ _ _ (g .r) (g .names) (g .is) _ (c .explain-lists .ensures)
+returns-3 c = let g = (read-some _ _ _ _ _ _ _ _ _ _ _ (record { byte = λ i. omega (arith, c .before .before .before .before .before .before .before .before .before .before .before .before .before .before .before .before .before .before .before .before .before .before .before .before .before .before .before .before .before .before .before .before .before .before .shared-slice-known2 .given i) }) (c .before .before .before .before .before .before .before .before .before .before .before .before .before .before .before .before .before .before .before .before .before .before .before .before .before .before .before .before .before .before .before .before .before .before .before .before .pre .1) _ (c .before .before .before .before .before .before .before .before .before .before .before .before .before .before .before .before .before .before .before .before .read .ensures) (c .before .before .before .before .before .before .before .if2 .left)) in lists-explained _ (c .before .before .before .before .before .before .before .before .before .before .before .before .before .before .before .before .before .before .before .before .before .before .before .before .before .before .before .before .before .before .before .before .before .before .before .before .args .bytes .now) _ (c .before .before .before .before .before .before .before .before .before .before .before .before .before .before .before .before .before .before .before .before .before .before .before .before .before .before .before .before .read-header .ensures) (c .before .before .before .before .before .before .before .before .before .before .before .before .before .before .before .before .before .before .before .before .before .before .before .before .before .before .before .before .before .before .before .before .before .before .before .before .pre .0) (c .before .before .before .before .before .before .before .before .before .before .before .before .before .before .before .before .before .before .before .before .before .before .before .before .before .before .if1 .left) _ _ _ _ _ _ (g .r) (g .names) (g .is) _ (c .before .before .explain-lists .ensures)
 
 pub explain-with-spec : {M : Type 1} → statement M
 explain-with-spec =
@@ -102,13 +102,13 @@ explain-with-spec =
     same-length-4
     same-length-5
     returns-2
-    slice-reshare-prefix-explain-lists
+    slice-relend-prefix-explain-lists
     slice-aggregate-explain-lists
-    slice-reshare-prefix-explain-lists-2
+    slice-reshare-prefix-explain-lists
     slice-aggregate-explain-lists-2
-    slice-reshare-prefix-explain-lists-3
+    slice-reshare-prefix-explain-lists-2
     slice-aggregate-explain-lists-3
-    slice-reshare-prefix-explain-lists-4
+    slice-reshare-prefix-explain-lists-3
     slice-aggregate-explain-lists-4
     explain-lists-requires
     same-length-6

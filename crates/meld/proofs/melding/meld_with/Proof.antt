@@ -45,32 +45,32 @@ same-length-7 c = search needs
 returns-2 : tie.Need-returns-2
 returns-2 c = is-malformed _ (c .before .before .before .before .before .before .before .before .before .before .before .before .before .before .before .before .before .before .before .before .before .before .before .before .before .before .before .before .before .before .before .before .before .before .args .bytes .now) _ (c .before .before .before .before .before .before .before .before .before .before .before .before .before .before .before .before .before .before .before .before .before .before .before .before .before .read-header .ensures) (c .before .before .before .before .before .before .before .before .before .before .before .before .before .before .before .before .before .before .before .before .before .before .before .before .before .before .before .before .before .before .before .before .before .before .pre .0) (c .before .before .before .before .before .before .before .before .before .before .before .before .before .before .before .before .before .before .before .before .before .before .before .if1 .left) (read-none _ _ _ _ _ _ _ _ _ _ _ (record { byte = λ i. omega (arith, c .before .before .before .before .before .before .before .before .before .before .before .before .before .before .before .before .before .before .before .before .before .before .before .before .before .before .before .before .before .before .before .before .shared-slice-known .given i) }) (c .before .before .before .before .before .before .before .before .before .before .before .before .before .before .before .before .before .before .before .before .before .before .before .before .before .before .before .before .before .before .before .before .before .before .pre .1) _ (c .before .before .before .before .before .before .before .before .before .before .before .before .before .before .before .before .before .read .ensures) (c .before .before .before .before .if2 .taken)) _ (c .before .before .advance .ensures)
 
-slice-reshare-prefix-meld-lists : tie.Need-slice-reshare-prefix-meld-lists
-slice-reshare-prefix-meld-lists c = omega (arith, (read-some _ _ _ _ _ _ _ _ _ _ _ (record { byte = λ i. omega (arith, c .before .before .before .before .before .before .before .before .before .before .before .before .before .before .before .before .before .before .before .before .before .before .before .before .before .before .before .before .before .shared-slice-known .given i) }) (c .before .before .before .before .before .before .before .before .before .before .before .before .before .before .before .before .before .before .before .before .before .before .before .before .before .before .before .before .before .before .before .pre .1) _ (c .before .before .before .before .before .before .before .before .before .before .before .before .before .before .read .ensures) (c .before .if2 .left)) .kinds-inside, c .before .before .before .before .before .before .before .before .before .before .before .before .before .before .read .kept .1 .0)
+slice-relend-prefix-meld-lists : tie.Need-slice-relend-prefix-meld-lists
+slice-relend-prefix-meld-lists c = omega (arith, (read-some _ _ _ _ _ _ _ _ _ _ _ (record { byte = λ i. omega (arith, c .before .before .before .before .before .before .before .before .before .before .before .before .before .before .before .before .before .before .before .before .before .before .before .before .before .before .before .before .before .shared-slice-known .given i) }) (c .before .before .before .before .before .before .before .before .before .before .before .before .before .before .before .before .before .before .before .before .before .before .before .before .before .before .before .before .before .before .before .pre .1) _ (c .before .before .before .before .before .before .before .before .before .before .before .before .before .before .read .ensures) (c .before .if2 .left)) .kinds-inside, c .before .before .before .before .before .before .before .before .before .before .before .before .before .before .read .kept .1 .0)
 
 slice-aggregate-meld-lists : tie.Need-slice-aggregate-meld-lists
 slice-aggregate-meld-lists c = sym (length-take-le _ _ (omega (arith, (read-some _ _ _ _ _ _ _ _ _ _ _ (record { byte = λ i. omega (arith, c .before .before .before .before .before .before .before .before .before .before .before .before .before .before .before .before .before .before .before .before .before .before .before .before .before .before .before .before .before .before .shared-slice-known .given i) }) (c .before .before .before .before .before .before .before .before .before .before .before .before .before .before .before .before .before .before .before .before .before .before .before .before .before .before .before .before .before .before .before .before .pre .1) _ (c .before .before .before .before .before .before .before .before .before .before .before .before .before .before .before .read .ensures) (c .before .before .if2 .left)) .kinds-inside, c .before .before .before .before .before .before .before .before .before .before .before .before .before .before .before .read .kept .1 .0)))
 
-slice-reshare-prefix-meld-lists-2 : tie.Need-slice-reshare-prefix-meld-lists-2
-slice-reshare-prefix-meld-lists-2 c = omega (arith, (read-some _ _ _ _ _ _ _ _ _ _ _ (record { byte = λ i. omega (arith, c .before .before .before .before .before .before .before .before .before .before .before .before .before .before .before .before .before .before .before .before .before .before .before .before .before .before .before .before .before .before .shared-slice-known .given i) }) (c .before .before .before .before .before .before .before .before .before .before .before .before .before .before .before .before .before .before .before .before .before .before .before .before .before .before .before .before .before .before .before .before .pre .1) _ (c .before .before .before .before .before .before .before .before .before .before .before .before .before .before .before .read .ensures) (c .before .before .if2 .left)) .keys-inside, c .before .before .before .before .before .before .before .before .before .before .before .before .before .before .before .read .kept .1 .1 .0)
+slice-reshare-prefix-meld-lists : tie.Need-slice-reshare-prefix-meld-lists
+slice-reshare-prefix-meld-lists c = omega (arith, (read-some _ _ _ _ _ _ _ _ _ _ _ (record { byte = λ i. omega (arith, c .before .before .before .before .before .before .before .before .before .before .before .before .before .before .before .before .before .before .before .before .before .before .before .before .before .before .before .before .before .before .shared-slice-known .given i) }) (c .before .before .before .before .before .before .before .before .before .before .before .before .before .before .before .before .before .before .before .before .before .before .before .before .before .before .before .before .before .before .before .before .pre .1) _ (c .before .before .before .before .before .before .before .before .before .before .before .before .before .before .before .read .ensures) (c .before .before .if2 .left)) .keys-inside, c .before .before .before .before .before .before .before .before .before .before .before .before .before .before .before .read .kept .1 .1 .0)
 
 slice-aggregate-meld-lists-2 : tie.Need-slice-aggregate-meld-lists-2
 slice-aggregate-meld-lists-2 c = sym (length-take-le _ _ (omega (arith, (read-some _ _ _ _ _ _ _ _ _ _ _ (record { byte = λ i. omega (arith, c .before .before .before .before .before .before .before .before .before .before .before .before .before .before .before .before .before .before .before .before .before .before .before .before .before .before .before .before .before .before .before .shared-slice-known .given i) }) (c .before .before .before .before .before .before .before .before .before .before .before .before .before .before .before .before .before .before .before .before .before .before .before .before .before .before .before .before .before .before .before .before .before .pre .1) _ (c .before .before .before .before .before .before .before .before .before .before .before .before .before .before .before .before .read .ensures) (c .before .before .before .if2 .left)) .keys-inside, c .before .before .before .before .before .before .before .before .before .before .before .before .before .before .before .before .read .kept .1 .1 .0)))
 
-slice-reshare-prefix-meld-lists-3 : tie.Need-slice-reshare-prefix-meld-lists-3
-slice-reshare-prefix-meld-lists-3 c = omega (arith, (read-some _ _ _ _ _ _ _ _ _ _ _ (record { byte = λ i. omega (arith, c .before .before .before .before .before .before .before .before .before .before .before .before .before .before .before .before .before .before .before .before .before .before .before .before .before .before .before .before .before .before .before .shared-slice-known .given i) }) (c .before .before .before .before .before .before .before .before .before .before .before .before .before .before .before .before .before .before .before .before .before .before .before .before .before .before .before .before .before .before .before .before .before .pre .1) _ (c .before .before .before .before .before .before .before .before .before .before .before .before .before .before .before .before .read .ensures) (c .before .before .before .if2 .left)) .payloads-inside, c .before .before .before .before .before .before .before .before .before .before .before .before .before .before .before .before .read .kept .1 .1 .1 .0)
+slice-reshare-prefix-meld-lists-2 : tie.Need-slice-reshare-prefix-meld-lists-2
+slice-reshare-prefix-meld-lists-2 c = omega (arith, (read-some _ _ _ _ _ _ _ _ _ _ _ (record { byte = λ i. omega (arith, c .before .before .before .before .before .before .before .before .before .before .before .before .before .before .before .before .before .before .before .before .before .before .before .before .before .before .before .before .before .before .before .shared-slice-known .given i) }) (c .before .before .before .before .before .before .before .before .before .before .before .before .before .before .before .before .before .before .before .before .before .before .before .before .before .before .before .before .before .before .before .before .before .pre .1) _ (c .before .before .before .before .before .before .before .before .before .before .before .before .before .before .before .before .read .ensures) (c .before .before .before .if2 .left)) .payloads-inside, c .before .before .before .before .before .before .before .before .before .before .before .before .before .before .before .before .read .kept .1 .1 .1 .0)
 
 slice-aggregate-meld-lists-3 : tie.Need-slice-aggregate-meld-lists-3
 slice-aggregate-meld-lists-3 c = sym (length-take-le _ _ (omega (arith, (read-some _ _ _ _ _ _ _ _ _ _ _ (record { byte = λ i. omega (arith, c .before .before .before .before .before .before .before .before .before .before .before .before .before .before .before .before .before .before .before .before .before .before .before .before .before .before .before .before .before .before .before .before .shared-slice-known .given i) }) (c .before .before .before .before .before .before .before .before .before .before .before .before .before .before .before .before .before .before .before .before .before .before .before .before .before .before .before .before .before .before .before .before .before .before .pre .1) _ (c .before .before .before .before .before .before .before .before .before .before .before .before .before .before .before .before .before .read .ensures) (c .before .before .before .before .if2 .left)) .payloads-inside, c .before .before .before .before .before .before .before .before .before .before .before .before .before .before .before .before .before .read .kept .1 .1 .1 .0)))
 
-slice-reshare-prefix-meld-lists-4 : tie.Need-slice-reshare-prefix-meld-lists-4
-slice-reshare-prefix-meld-lists-4 c = omega (arith, (read-some _ _ _ _ _ _ _ _ _ _ _ (record { byte = λ i. omega (arith, c .before .before .before .before .before .before .before .before .before .before .before .before .before .before .before .before .before .before .before .before .before .before .before .before .before .before .before .before .before .before .before .before .shared-slice-known .given i) }) (c .before .before .before .before .before .before .before .before .before .before .before .before .before .before .before .before .before .before .before .before .before .before .before .before .before .before .before .before .before .before .before .before .before .before .pre .1) _ (c .before .before .before .before .before .before .before .before .before .before .before .before .before .before .before .before .before .read .ensures) (c .before .before .before .before .if2 .left)) .lows-inside, c .before .before .before .before .before .before .before .before .before .before .before .before .before .before .before .before .before .read .kept .1 .1 .1 .1 .0)
+slice-reshare-prefix-meld-lists-3 : tie.Need-slice-reshare-prefix-meld-lists-3
+slice-reshare-prefix-meld-lists-3 c = omega (arith, (read-some _ _ _ _ _ _ _ _ _ _ _ (record { byte = λ i. omega (arith, c .before .before .before .before .before .before .before .before .before .before .before .before .before .before .before .before .before .before .before .before .before .before .before .before .before .before .before .before .before .before .before .before .shared-slice-known .given i) }) (c .before .before .before .before .before .before .before .before .before .before .before .before .before .before .before .before .before .before .before .before .before .before .before .before .before .before .before .before .before .before .before .before .before .before .pre .1) _ (c .before .before .before .before .before .before .before .before .before .before .before .before .before .before .before .before .before .read .ensures) (c .before .before .before .before .if2 .left)) .lows-inside, c .before .before .before .before .before .before .before .before .before .before .before .before .before .before .before .before .before .read .kept .1 .1 .1 .1 .0)
 
 slice-aggregate-meld-lists-4 : tie.Need-slice-aggregate-meld-lists-4
 slice-aggregate-meld-lists-4 c = sym (length-take-le _ _ (omega (arith, (read-some _ _ _ _ _ _ _ _ _ _ _ (record { byte = λ i. omega (arith, c .before .before .before .before .before .before .before .before .before .before .before .before .before .before .before .before .before .before .before .before .before .before .before .before .before .before .before .before .before .before .before .before .before .shared-slice-known .given i) }) (c .before .before .before .before .before .before .before .before .before .before .before .before .before .before .before .before .before .before .before .before .before .before .before .before .before .before .before .before .before .before .before .before .before .before .before .pre .1) _ (c .before .before .before .before .before .before .before .before .before .before .before .before .before .before .before .before .before .before .read .ensures) (c .before .before .before .before .before .if2 .left)) .lows-inside, c .before .before .before .before .before .before .before .before .before .before .before .before .before .before .before .before .before .before .read .kept .1 .1 .1 .1 .0)))
 
-slice-reshare-prefix-meld-lists-5 : tie.Need-slice-reshare-prefix-meld-lists-5
-slice-reshare-prefix-meld-lists-5 c = omega (arith, (read-some _ _ _ _ _ _ _ _ _ _ _ (record { byte = λ i. omega (arith, c .before .before .before .before .before .before .before .before .before .before .before .before .before .before .before .before .before .before .before .before .before .before .before .before .before .before .before .before .before .before .before .before .before .shared-slice-known .given i) }) (c .before .before .before .before .before .before .before .before .before .before .before .before .before .before .before .before .before .before .before .before .before .before .before .before .before .before .before .before .before .before .before .before .before .before .before .pre .1) _ (c .before .before .before .before .before .before .before .before .before .before .before .before .before .before .before .before .before .before .read .ensures) (c .before .before .before .before .before .if2 .left)) .highs-inside, c .before .before .before .before .before .before .before .before .before .before .before .before .before .before .before .before .before .before .read .kept .1 .1 .1 .1 .1 .0)
+slice-reshare-prefix-meld-lists-4 : tie.Need-slice-reshare-prefix-meld-lists-4
+slice-reshare-prefix-meld-lists-4 c = omega (arith, (read-some _ _ _ _ _ _ _ _ _ _ _ (record { byte = λ i. omega (arith, c .before .before .before .before .before .before .before .before .before .before .before .before .before .before .before .before .before .before .before .before .before .before .before .before .before .before .before .before .before .before .before .before .before .shared-slice-known .given i) }) (c .before .before .before .before .before .before .before .before .before .before .before .before .before .before .before .before .before .before .before .before .before .before .before .before .before .before .before .before .before .before .before .before .before .before .before .pre .1) _ (c .before .before .before .before .before .before .before .before .before .before .before .before .before .before .before .before .before .before .read .ensures) (c .before .before .before .before .before .if2 .left)) .highs-inside, c .before .before .before .before .before .before .before .before .before .before .before .before .before .before .before .before .before .before .read .kept .1 .1 .1 .1 .1 .0)
 
 slice-aggregate-meld-lists-5 : tie.Need-slice-aggregate-meld-lists-5
 slice-aggregate-meld-lists-5 c = sym (length-take-le _ _ (omega (arith, (read-some _ _ _ _ _ _ _ _ _ _ _ (record { byte = λ i. omega (arith, c .before .before .before .before .before .before .before .before .before .before .before .before .before .before .before .before .before .before .before .before .before .before .before .before .before .before .before .before .before .before .before .before .before .before .shared-slice-known .given i) }) (c .before .before .before .before .before .before .before .before .before .before .before .before .before .before .before .before .before .before .before .before .before .before .before .before .before .before .before .before .before .before .before .before .before .before .before .before .pre .1) _ (c .before .before .before .before .before .before .before .before .before .before .before .before .before .before .before .before .before .before .before .read .ensures) (c .before .before .before .before .before .before .if2 .left)) .highs-inside, c .before .before .before .before .before .before .before .before .before .before .before .before .before .before .before .before .before .before .before .read .kept .1 .1 .1 .1 .1 .0)))
@@ -97,7 +97,7 @@ same-length-13 : tie.Need-same-length-13
 same-length-13 c = search needs
 
 returns-3 : tie.Need-returns-3
-returns-3 c = let g = (read-some _ _ _ _ _ _ _ _ _ _ _ (record { byte = λ i. omega (arith, c .before .before .before .before .before .before .before .before .before .before .before .before .before .before .before .before .before .before .before .before .before .before .before .before .before .before .before .before .before .before .before .before .before .before .before .before .before .shared-slice-known .given i) }) (c .before .before .before .before .before .before .before .before .before .before .before .before .before .before .before .before .before .before .before .before .before .before .before .before .before .before .before .before .before .before .before .before .before .before .before .before .before .before .before .pre .1) _ (c .before .before .before .before .before .before .before .before .before .before .before .before .before .before .before .before .before .before .before .before .before .before .read .ensures) (c .before .before .before .before .before .before .before .before .before .if2 .left)) in melded-lists _ (c .before .before .before .before .before .before .before .before .before .before .before .before .before .before .before .before .before .before .before .before .before .before .before .before .before .before .before .before .before .before .before .before .before .before .before .before .before .before .before .args .bytes .now) _ (c .before .before .before .before .before .before .before .before .before .before .before .before .before .before .before .before .before .before .before .before .before .before .before .before .before .before .before .before .before .before .read-header .ensures) (c .before .before .before .before .before .before .before .before .before .before .before .before .before .before .before .before .before .before .before .before .before .before .before .before .before .before .before .before .before .before .before .before .before .before .before .before .before .before .before .pre .0) (c .before .before .before .before .before .before .before .before .before .before .before .before .before .before .before .before .before .before .before .before .before .before .before .before .before .before .before .before .if1 .left) _ _ _ _ _ _ (g .r) (g .names) (g .is) _ _ (c .before .before .meld-lists .ensures)
+returns-3 c = let g = (read-some _ _ _ _ _ _ _ _ _ _ _ (record { byte = λ i. omega (arith, c .before .before .before .before .before .before .before .before .before .before .before .before .before .before .before .before .before .before .before .before .before .before .before .before .before .before .before .before .before .before .before .before .before .before .before .before .before .before .before .shared-slice-known .given i) }) (c .before .before .before .before .before .before .before .before .before .before .before .before .before .before .before .before .before .before .before .before .before .before .before .before .before .before .before .before .before .before .before .before .before .before .before .before .before .before .before .before .before .pre .1) _ (c .before .before .before .before .before .before .before .before .before .before .before .before .before .before .before .before .before .before .before .before .before .before .before .before .read .ensures) (c .before .before .before .before .before .before .before .before .before .before .before .if2 .left)) in melded-lists _ (c .before .before .before .before .before .before .before .before .before .before .before .before .before .before .before .before .before .before .before .before .before .before .before .before .before .before .before .before .before .before .before .before .before .before .before .before .before .before .before .before .before .args .bytes .now) _ (c .before .before .before .before .before .before .before .before .before .before .before .before .before .before .before .before .before .before .before .before .before .before .before .before .before .before .before .before .before .before .before .before .read-header .ensures) (c .before .before .before .before .before .before .before .before .before .before .before .before .before .before .before .before .before .before .before .before .before .before .before .before .before .before .before .before .before .before .before .before .before .before .before .before .before .before .before .before .before .pre .0) (c .before .before .before .before .before .before .before .before .before .before .before .before .before .before .before .before .before .before .before .before .before .before .before .before .before .before .before .before .before .before .if1 .left) _ _ _ _ _ _ (g .r) (g .names) (g .is) _ _ (c .before .before .before .before .meld-lists .ensures)
 
 pub meld-with-spec : {M : Type 1} → statement M
 meld-with-spec =
@@ -115,15 +115,15 @@ meld-with-spec =
     same-length-6
     same-length-7
     returns-2
-    slice-reshare-prefix-meld-lists
+    slice-relend-prefix-meld-lists
     slice-aggregate-meld-lists
-    slice-reshare-prefix-meld-lists-2
+    slice-reshare-prefix-meld-lists
     slice-aggregate-meld-lists-2
-    slice-reshare-prefix-meld-lists-3
+    slice-reshare-prefix-meld-lists-2
     slice-aggregate-meld-lists-3
-    slice-reshare-prefix-meld-lists-4
+    slice-reshare-prefix-meld-lists-3
     slice-aggregate-meld-lists-4
-    slice-reshare-prefix-meld-lists-5
+    slice-reshare-prefix-meld-lists-4
     slice-aggregate-meld-lists-5
     meld-lists-requires
     same-length-8

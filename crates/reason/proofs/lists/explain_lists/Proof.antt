@@ -29,7 +29,7 @@ returns-3 : tie.Need-returns-3
 returns-3 c = plainly-explained _ _ _ _ _ _ _ _ _ (c .plain .ensures) (ahead-explained _ _ _ _ _ _ (c .before .before .before .before .before .before .before .before .before .before .before .before .before .before .before .before .before .before .pre) _ (c .before .before .before .before .before .before .before .before .before .before .before .before .judge-and-name .ensures) (c .before .before .before .before .before .before .before .if1 .left) (c .before .before .before .before .if2 .left) (c .before .if3 .taken))
 
 room-for-requires : tie.Need-room-for-requires
-room-for-requires c κs = (is-fit _ _ _ _ _ _ (c .before .before .before .before .before .before .before .before .before .before .before .before .before .before .before .before .before .pre), is-writable _ _ _ _ _ _ (c .before .before .before .before .before .before .before .before .before .before .before .before .before .before .before .before .before .pre))
+room-for-requires c κs = (is-fit _ _ _ _ _ _ (c .before .before .before .before .before .before .before .before .before .before .before .before .before .before .before .before .before .before .pre), is-writable _ _ _ _ _ _ (c .before .before .before .before .before .before .before .before .before .before .before .before .before .before .before .before .before .before .pre))
 
 enum-known-keys : tie.Need-enum-known-keys
 enum-known-keys c = search needs
@@ -46,14 +46,23 @@ enum-told-2 c = search needs
 plain-requires-3 : tie.Need-plain-requires-3
 plain-requires-3 c κs = search needs
 
+same-length : tie.Need-same-length
+same-length c = search needs
+
 returns-4 : tie.Need-returns-4
-returns-4 c = crowded-explained _ _ _ _ _ _ (c .before .before .before .before .before .before .before .before .before .before .before .before .before .before .before .before .before .before .before .before .before .pre) _ (c .before .before .before .before .before .before .before .before .before .before .before .before .before .before .before .judge-and-name .ensures) (c .before .before .before .before .if3 .left) _ (c .before .before .before .room-for .ensures) _ (c .before .keys .given .1)
+returns-4 c = crowded-explained _ _ _ _ _ _ (c .before .before .before .before .before .before .before .before .before .before .before .before .before .before .before .before .before .before .before .before .before .before .before .before .pre) _ (c .before .before .before .before .before .before .before .before .before .before .before .before .before .before .before .before .before .before .judge-and-name .ensures) (c .before .before .before .before .before .before .before .if3 .left) _ (c .before .before .before .before .before .room-for .ensures .0) _ (c .before .keys .given .1)
+
+same-length-2 : tie.Need-same-length-2
+same-length-2 c = search needs
 
 returns-5 : tie.Need-returns-5
-returns-5 c = plainly-explained _ _ _ _ _ _ _ _ _ (c .plain2 .ensures) (lean-explained _ _ _ _ _ _ (c .before .before .before .before .before .before .before .before .before .before .before .before .before .before .before .before .before .before .before .before .before .pre) _ (c .before .before .before .before .before .before .before .before .before .before .before .before .before .before .before .judge-and-name .ensures) (c .before .before .before .before .if3 .left) _ (c .before .before .before .room-for .ensures) (c .before .enum-told .given .1))
+returns-5 c = plainly-explained _ _ _ _ _ _ _ _ _ (c .plain2 .ensures) (lean-explained _ _ _ _ _ _ (c .before .before .before .before .before .before .before .before .before .before .before .before .before .before .before .before .before .before .before .before .before .before .before .before .pre) _ (c .before .before .before .before .before .before .before .before .before .before .before .before .before .before .before .before .before .before .judge-and-name .ensures) (c .before .before .before .before .before .before .before .if3 .left) _ (c .before .before .before .before .before .room-for .ensures .0) (c .before .enum-told .given .1))
+
+same-length-3 : tie.Need-same-length-3
+same-length-3 c = search needs
 
 returns-6 : tie.Need-returns-6
-returns-6 c = plainly-explained _ _ _ _ _ _ _ _ _ (c .plain3 .ensures) (whole-explained _ _ _ _ _ _ (c .before .before .before .before .before .before .before .before .before .before .before .before .before .before .before .before .before .before .before .before .before .pre) _ (c .before .before .before .before .before .before .before .before .before .before .before .before .before .before .before .judge-and-name .ensures) (c .before .before .before .before .if3 .left) _ (c .before .before .before .room-for .ensures) (c .before .enum-told2 .given .1))
+returns-6 c = plainly-explained _ _ _ _ _ _ _ _ _ (c .plain3 .ensures) (whole-explained _ _ _ _ _ _ (c .before .before .before .before .before .before .before .before .before .before .before .before .before .before .before .before .before .before .before .before .before .before .before .before .pre) _ (c .before .before .before .before .before .before .before .before .before .before .before .before .before .before .before .before .before .before .judge-and-name .ensures) (c .before .before .before .before .before .before .before .if3 .left) _ (c .before .before .before .before .before .room-for .ensures .0) (c .before .enum-told2 .given .1))
 
 pub explain-lists-spec : {M : Type 1} → statement M
 explain-lists-spec =
@@ -73,6 +82,9 @@ explain-lists-spec =
     plain-requires-2
     enum-told-2
     plain-requires-3
+    same-length
     returns-4
+    same-length-2
     returns-5
+    same-length-3
     returns-6)
