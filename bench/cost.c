@@ -6,15 +6,17 @@
                                              with COUNT so many of the 72 deleted then, and two empty records
      cost combs N KEYS ZONE FILE             the same with 1,088 numbers
      cost library|plain CALL N KEYS POINTS FILE [skip|stack|compare]
-   CALL is look (lookup of an absent key), status, or a meld of POINTS points: kept (puts of kept keys), new (puts of other keys), read (reads of kept keys),
-   old (reads of other keys, with half the position as snapshot), scans (POINTS scans between neighbouring kept keys, 8 at most, the same snapshot), full
-   (puts of kept keys that were written before half the position, and a scan between neighbouring kept keys for each 16 of them, the same snapshot; 1,024 of
-   them make the longest record), fullest (64 reads and 8 scans of the 72 numbers, or 1,024 and 64 of the 1,088, with the position before their combs as
-   snapshot), lost (reads of kept keys, with half the position), late (the same, with 0). The others have the position as snapshot. With why- before it the record of such a call is explained and not melded. Three calls feed the
-   record of kept: fed (all of it in the part, and nothing carried), begun (its first byte carried, the others in the part), more (all of it but its last
-   byte in the part, so that none is decided). Three cut a log that is the record of kept: cut (as it is), torn (without its last byte), sick (with a length
-   of 65,535). With skip the call is left out; with stack the bytes of stack it used are printed; with compare both are
-   called, and their answers, looks, numbers and bytes have to be the same. The status is the call's answer, or one of those below. */
+   CALL is look (lookup of an absent key), status, or a meld of POINTS points: kept (puts of kept keys), new (puts of other keys), read (reads of kept
+   keys), old (reads of other keys, with half the position as snapshot), scans (POINTS scans between neighbouring kept keys, 8 at most, the same snapshot),
+   full (puts of kept keys that were written before half the position, and a scan between neighbouring kept keys for each 16 of them, the same snapshot;
+   1,024 of them make the longest record), fullest (64 reads and 8 scans of the 72 numbers, or 1,024 and 64 of the 1,088, with the position before their
+   combs as snapshot), lost (reads of kept keys, with half the position), late (the same, with 0), live (deletes of keys of the latter half, which are
+   live), absent (deletes of the keys that new puts), gone (deletes of the first keys, which tombstones has deleted). The others have the position as
+   snapshot. With why- before it the record of such a call is explained and not melded. Three calls feed the record of kept: fed (all of it in the part, and
+   nothing carried), begun (its first byte carried, the others in the part), more (all of it but its last byte in the part, so that none is decided). Three
+   cut a log that is the record of kept: cut (as it is), torn (without its last byte), sick (with a length of 65,535). With skip the call is left out; with
+   stack the bytes of stack it used are printed; with compare both are called, and their answers, looks, numbers and bytes have to be the same. The status
+   is the call's answer, or one of those below. */
 #include <stdio.h>
 #include <stdlib.h>
 #include <string.h>
@@ -170,10 +172,12 @@ static uint64_t prepare(const char *call, uint32_t points, uint8_t *record) {
         return record_of(record, p / 2, some, points, EMUPARASOL_KIND_PUT, beside.many.lows, beside.many.highs, points / 16);
     }
     bool other = !strcmp(call, "new") || !strcmp(call, "old"), half = !strcmp(call, "old") || !strcmp(call, "lost"), none = !strcmp(call, "late");
-    bool reads = half || none || !strcmp(call, "read");
+    bool live = !strcmp(call, "live"), absent = !strcmp(call, "absent"), gone = !strcmp(call, "gone");
+    uint8_t kind = half || none || !strcmp(call, "read") ? EMUPARASOL_KIND_READ : live || absent || gone ? EMUPARASOL_KIND_DELETE : EMUPARASOL_KIND_PUT;
+    uint32_t first = live ? keys / 2 : 0;
     for (uint32_t i = 0; i < points; i++)
-        some[i] = other ? key_of(keys + 1 + 977 * i) : key_of((uint32_t)((uint64_t)keys * i / points));
-    return record_of(record, none ? 0 : half ? p / 2 : p, some, points, reads ? EMUPARASOL_KIND_READ : EMUPARASOL_KIND_PUT, &n, &n, 0);
+        some[i] = other || absent ? key_of(keys + 1 + 977 * i) : key_of(gone ? i : first + (uint32_t)((uint64_t)(keys - first) * i / points));
+    return record_of(record, none ? 0 : half ? p / 2 : p, some, points, kind, &n, &n, 0);
 }
 
 /* The call whose record is explained, or NULL where none is. */

@@ -461,7 +461,8 @@ static uint32_t drop_old(uint8_t *pool, uint32_t i, uint32_t limit, struct freed
     return i;
 }
 
-/* Stores a leaf for the key: one descent, then newest and oldest mended on the way back. */
+/* Stores a leaf for the key: one descent, then newest and oldest mended on the way back. A tombstone only where the descent ends at a live leaf: a delete
+   of any other key writes nothing (R22), and that is still what it was at p, for only tombstones are dropped and each key stands in a record once. */
 static void put(uint8_t *pool, uint32_t key, uint32_t v, uint64_t payload, uint32_t kind) {
     uint32_t i = get(pool + ROOT), oldest = kind == TOMBSTONE ? v : NONE, depth = 0;
     uint8_t *path[DEEPEST], *link = pool + ROOT, *n;
@@ -470,7 +471,10 @@ static void put(uint8_t *pool, uint32_t key, uint32_t v, uint64_t payload, uint3
         link = n + ((key >> (get(n + HEIGHT) - 1)) & 1 ? RIGHT : LEFT);
         i = get(link);
     }
-    if (i != NONE && covers(node_at(pool, i), key)) {
+    bool found = i != NONE && covers(node_at(pool, i), key);
+    if (kind == TOMBSTONE && !(found && get(node_at(pool, i) + KIND) == LIVE))
+        return;
+    if (found) {
         write_node(node_at(pool, i), 0, key, v, oldest, (uint32_t)(payload >> 32), (uint32_t)payload, kind);
     } else {
         uint32_t first = get(pool + FREE), leaf = first;
@@ -494,10 +498,11 @@ static void put(uint8_t *pool, uint32_t key, uint32_t v, uint64_t payload, uint3
         mend(pool, path[--depth]);
 }
 
-/* Whether there is room for what a record writes; where old tombstones have to go for it, how many keys are counted then. */
+/* Whether there is room for what a record writes; where old tombstones have to go for it, how many keys are counted then. A delete that is found here to
+   write nothing is a read from then on: nobody looks for its key again. */
 enum room { ENOUGH, AFTER_A_DROP, TOO_LITTLE };
 
-static enum room room_for(const uint8_t *pool, const struct record *r, uint32_t limit, uint32_t *counted) {
+static enum room room_for(const uint8_t *pool, struct record *r, uint32_t limit, uint32_t *counted) {
     uint32_t n = get(pool + LIMIT), kept = get(pool + KEPT), absent = 0, revived = 0;
     if (kept + (uint32_t)r->points <= n)
         return ENOUGH;
@@ -505,8 +510,14 @@ static enum room room_for(const uint8_t *pool, const struct record *r, uint32_t 
         if (r->kinds[i] == EMUPARASOL_KIND_READ)
             continue;
         const uint8_t *leaf = leaf_of(pool, r->keys[i]);
-        absent += leaf == NULL;
-        revived += leaf != NULL && get(leaf + KIND) == TOMBSTONE && get(leaf + NEWEST) <= limit;
+        if (leaf != NULL && get(leaf + KIND) == LIVE)
+            continue; /* counted as a kept key, and no tombstone */
+        if (r->kinds[i] == EMUPARASOL_KIND_DELETE)
+            r->kinds[i] = EMUPARASOL_KIND_READ;
+        else if (leaf == NULL)
+            absent++;
+        else
+            revived += get(leaf + NEWEST) <= limit;
     }
     if (kept + absent <= n)
         return ENOUGH;

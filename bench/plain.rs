@@ -382,7 +382,9 @@ fn drop_old(pool: &mut [u8], i: u32, limit: u32, f: &mut Freed) -> u32 {
     i
 }
 
-/// Stores a leaf for the key: one descent, then newest and oldest mended on the way back.
+/// Stores a leaf for the key: one descent, then newest and oldest mended on the way back. A
+/// tombstone only where the descent ends at a live leaf: a delete of any other key writes
+/// nothing (R22).
 fn put(pool: &mut [u8], key: u32, v: u32, payload: u64, kind: u32) {
     let (mut i, mut link, mut depth, mut path) = (get(pool, ROOT), ROOT, 0, [0_usize; 33]);
     let oldest = if kind == 2 { v } else { NONE };
@@ -401,7 +403,11 @@ fn put(pool: &mut [u8], key: u32, v: u32, payload: u64, kind: u32) {
         link = node(i) + side(get(pool, node(i) + HEIGHT), key);
         i = get(pool, link);
     }
-    if i != NONE && covers(pool, i, key) {
+    let found = i != NONE && covers(pool, i, key);
+    if kind == 2 && !(found && get(pool, node(i) + KIND) == 1) {
+        return;
+    }
+    if found {
         write_node(pool, i, leaf);
     } else {
         let first = get(pool, FREE);
@@ -438,7 +444,8 @@ fn put(pool: &mut [u8], key: u32, v: u32, payload: u64, kind: u32) {
     }
 }
 
-/// Row 3.
+/// Row 3. A delete that is found here to write nothing is a read from then on: nobody looks
+/// for its key again.
 enum Room {
     Enough,
     AfterDrop,
@@ -447,7 +454,7 @@ enum Room {
 
 fn room<const POINTS: usize, const SCANS: usize>(
     pool: &[u8],
-    r: &Record<POINTS, SCANS>,
+    r: &mut Record<POINTS, SCANS>,
     limit: u32,
 ) -> Room {
     let (n, kept) = (get(pool, LIMIT), get(pool, KEPT));
@@ -455,13 +462,15 @@ fn room<const POINTS: usize, const SCANS: usize>(
         return Room::Enough;
     }
     let (mut absent, mut revived) = (0, 0);
-    for i in (0..r.points).filter(|&i| r.kinds[i] != 1) {
+    for i in 0..r.points {
+        if r.kinds[i] == 1 {
+            continue;
+        }
         match leaf_of(pool, r.keys[i]) {
+            Some(leaf) if get(pool, leaf + KIND) == 1 => {}
+            _ if r.kinds[i] == 3 => r.kinds[i] = 1,
             None => absent += 1,
-            Some(leaf) => {
-                revived +=
-                    u32::from(get(pool, leaf + KIND) == 2 && get(pool, leaf + NEWEST) <= limit)
-            }
+            Some(leaf) => revived += u32::from(get(pool, leaf + NEWEST) <= limit),
         }
     }
     if kept + absent <= n {
@@ -527,7 +536,7 @@ fn meld_fit<const POINTS: usize, const SCANS: usize>(
         return CONFLICT;
     }
     let limit = v.saturating_sub(zone);
-    match room(pool, &r, limit) {
+    match room(pool, &mut r, limit) {
         Room::TooLittle => return NO_ROOM,
         Room::AfterDrop => {
             let first = get(pool, FREE);

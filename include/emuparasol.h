@@ -63,7 +63,7 @@ static inline const char *emuparasol_answer_name(uint8_t answer) {
 enum emuparasol_kind {
     EMUPARASOL_KIND_READ = 1,
     EMUPARASOL_KIND_PUT = 2,
-    EMUPARASOL_KIND_DELETE = 3
+    EMUPARASOL_KIND_DELETE = 3 /* writes only if the key is live then: kept, and not deleted already (R22) */
 };
 
 /* What emuparasol_feed has done, each number with its one name. */
@@ -102,7 +102,11 @@ uint8_t emuparasol_lookup(const uint8_t *pool, uint64_t pool_length, uint32_t ke
 
 /* Decides the log's next record: the first that applies of 7, 6, 4, 5, 2, 1, 3 and 0. On 7 and 6 the pool is as before; on 4, 5, 2, 1 and 3 only its
    position moves on by one; on 0 the record's writes are stored at that position too. *looks is the number of nodes that the search for a conflict
-   looked at, 0 on 7, 6, 4, 5 and 2. */
+   looked at, 0 on 7, 6, 4, 5 and 2.
+   A record writes the keys of its puts, and of its deletes those that are live in the pool before it. A delete of any other key, never written or deleted
+   already, writes nothing: it beats no other record, needs no room, and a tombstone that is there stays as old as it is. But the record names the key all
+   the same, and is itself beaten if somebody wrote it since its snapshot. Cards from before this rule wrote such a delete: docs/FIRMWARE.md, "Moving to
+   deletes that write nothing". */
 uint8_t emuparasol_meld(uint8_t *pool, uint64_t pool_length, const uint8_t *record, uint64_t record_length, uint32_t *looks);
 
 /* Takes the next part of the log, of any length, and decides one record at most, once its last byte is in. The first *carried bytes of the carry are
@@ -135,7 +139,7 @@ uint8_t emuparasol_feed(uint8_t *pool, uint64_t pool_length, uint8_t *carry, uin
      that key, or, if it has none, *scan the number of its scan that covers the key. The first point is number 1, and so is the first scan.
    - 2: *lag is how many positions back the snapshot lies, which is more than Z.
    - 3: *keys is how many keys would have to be kept, which is more than N: those that are live, those with a tombstone that is too young to be dropped,
-     and those that the record writes, each once. */
+     and those that the record writes, each once. A key that it deletes and that is not live is not written. */
 uint8_t emuparasol_explain(const uint8_t *pool, uint64_t pool_length, const uint8_t *record, uint64_t record_length, uint32_t *looks, uint32_t *key,
                            uint32_t *position, uint64_t *point, uint64_t *scan, uint32_t *lag, uint32_t *keys);
 

@@ -22,6 +22,7 @@ enum { LIST = EMUPARASOL_MOST_POINTS + 6, PAIRS = EMUPARASOL_MOST_SCANS + 6, FEW
 
 static uint64_t seed, calls, state;
 static unsigned long answers[16], happenings[4], completed, points_blamed, scans_blamed, lags_told, keys_told, wide_melded[16], wide_fed, wide_read;
+static unsigned long nothing_deleted, nothing_deleted_in_full;
 static const char *doing = "";
 
 /* Random numbers (xorshift64*), below a limit. */
@@ -286,6 +287,21 @@ static void try_lookup(uint8_t *bytes, uint64_t length) {
     same(&pool_area, bytes, "the pool was written");
 }
 
+/* Whether a record deletes a key that is not live in the pool. */
+static bool deletes_nothing(const uint8_t *bytes, uint64_t length, const uint8_t *record, uint64_t size) {
+    static uint8_t kinds[LIST];
+    static uint32_t keys[LIST], lows[PAIRS], highs[PAIRS];
+    static uint64_t payloads[LIST];
+    uint64_t points, scans, payload;
+    uint32_t snapshot, position;
+    if (plain_read(record, size, kinds, LIST, keys, LIST, payloads, LIST, lows, PAIRS, highs, PAIRS, &snapshot, &points, &scans) != EMUPARASOL_COMMITTED)
+        return false;
+    for (uint64_t i = 0; i < points; i++)
+        if (kinds[i] == EMUPARASOL_KIND_DELETE && plain_lookup(bytes, length, keys[i], &payload, &position) == EMUPARASOL_COMMITTED && position == 0)
+            return true;
+    return false;
+}
+
 static void try_meld(uint8_t *bytes, uint64_t length) {
     static uint8_t record[RECORD_ROOM];
     uint32_t looks;
@@ -294,8 +310,11 @@ static void try_meld(uint8_t *bytes, uint64_t length) {
     place(&pool_area, bytes, length);
     place(&record_area, record, size);
     uint32_t *to = number(0, 4);
+    bool nothing = one_in(4) && deletes_nothing(bytes, length, record, size), full = nothing && word_at(bytes + 16) == word_at(bytes + 4);
     uint8_t answer = emuparasol_meld(lent(&pool_area), length, shown(&record_area), size, to);
     answered(answer, plain_meld(bytes, length, record, size, &looks));
+    nothing_deleted += nothing && answer == EMUPARASOL_COMMITTED;
+    nothing_deleted_in_full += full && answer == EMUPARASOL_COMMITTED;
     if (size > 2 && record[2] == 2)
         wide_melded[answer & 15]++;
     told(0, &looks, "the looks differ");
@@ -647,6 +666,9 @@ int main(int argc, char **argv) {
     printf("explained: a point in conflict %lu, a scan %lu, too old %lu, no room %lu\n", points_blamed, scans_blamed, lags_told, keys_told);
     if (points_blamed == 0 || scans_blamed == 0 || lags_told == 0 || keys_told == 0)
         fail("a reason was not told");
+    printf("deletes of keys that are not live: %lu records with some were counted, %lu of them into a full pool\n", nothing_deleted, nothing_deleted_in_full);
+    if (nothing_deleted_in_full == 0)
+        fail("no delete of nothing was committed into a full pool");
     printf("version 2: committed %lu, conflict %lu, no room %lu, malformed %lu; begun in the carry %lu, read %lu\n", wide_melded[EMUPARASOL_COMMITTED],
            wide_melded[EMUPARASOL_CONFLICT], wide_melded[EMUPARASOL_NO_ROOM], wide_melded[EMUPARASOL_MALFORMED], wide_fed, wide_read);
     if (wide_melded[EMUPARASOL_COMMITTED] == 0 || wide_melded[EMUPARASOL_CONFLICT] == 0 || wide_melded[EMUPARASOL_NO_ROOM] == 0 ||

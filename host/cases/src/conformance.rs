@@ -39,6 +39,10 @@ impl Set {
         set.in_parts.extend(larger);
         let larger = numbered(&mut next, ideas::reason::larger());
         set.reasons.extend(larger);
+        let nothing = numbered(&mut next, ideas::nothing::all());
+        set.whole.extend(nothing);
+        let nothing = numbered(&mut next, ideas::reason::of_nothing());
+        set.reasons.extend(nothing);
         set
     }
 }

@@ -245,3 +245,49 @@ pub fn larger() -> Vec<Case> {
     }
     cases
 }
+
+/// Those that came with deletes that write nothing (R22): in the largest pool of the
+/// program, and a tombstone deleted at every position up to its age.
+pub fn nothing() -> Vec<Case> {
+    vec![nothing_in_the_largest_pool(), deleted_up_to_its_age(100)]
+}
+
+/// 1,000 keys of version 2; 1,024 deletes, of absent keys and then of one that is live too;
+/// one key more finds no room, and one of those deleted does.
+fn nothing_in_the_largest_pool() -> Case {
+    let keys = |from: u32| (0..1_000).map(move |index| index * 7 + from);
+    let puts: Vec<Point> = keys(0).map(|key| Point::put(key, 9)).collect();
+    let deletes = |from: u32| -> Vec<Point> {
+        (0..1_024)
+            .map(|index| Point::delete(index * 7 + from))
+            .collect()
+    };
+    let mut mixed = deletes(1);
+    mixed[500] = Point::delete(500 * 7);
+    let records = [
+        record(0, &puts),
+        record(1, &deletes(3)),
+        record(1, &mixed),
+        scanning(1, &[], &[(3, 6)]),
+        scanning(1, &[], &[(3_500, 3_503)]),
+        record(5, &[Point::put(1, 1)]),
+        record(5, &[Point::put(3_500, 1)]),
+    ];
+    case(
+        "nothing-in-the-largest-pool".to_string(),
+        "Deletes of absent keys in the largest pool.",
+        join(1_000, 9, &table::log(&records)),
+    )
+}
+
+/// A key put and deleted, and deleted again at each position until its tombstone is old.
+fn deleted_up_to_its_age(z: u32) -> Case {
+    let mut records = vec![record(0, &[Point::put(7, 1)])];
+    records.extend((1..z).map(|p| record(p, &[Point::delete(7)])));
+    records.extend((z..z + 3).map(|p| record(p, &[Point::put(8, 1), Point::delete(9)])));
+    case(
+        format!("nothing-up-to-its-age-{z}"),
+        "A tombstone deleted at every position.",
+        join(1, z, &table::log(&records)),
+    )
+}

@@ -36,6 +36,8 @@ pub fn all() -> Vec<Case> {
         ideas::log::endings(),
         ideas::larger::all(),
         edges::larger(),
+        ideas::nothing::all(),
+        edges::nothing(),
     ]
     .concat()
 }

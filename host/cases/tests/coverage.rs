@@ -183,6 +183,119 @@ const LARGER_IN_PARTS: &[(&str, FeedMistake)] = &[
     ("parts-length-13833-alone", FeedMistake::LengthNotMost),
 ];
 
+/// The cases of deletes that write nothing, and the mistakes that each is made for.
+const NOTHING: &[(&str, &[Mistake])] = &[
+    (
+        "nothing-eight-rows",
+        &[
+            Mistake::DeletesAlwaysWrite,
+            Mistake::TombstonesWrittenAgain,
+            Mistake::TombstonesRenewed,
+            Mistake::NothingNotNamed,
+            Mistake::AbsentDeletesNeedRoom,
+        ],
+    ),
+    ("nothing-beats-no-scan", &[Mistake::DeletesAlwaysWrite]),
+    ("nothing-beats-no-point", &[Mistake::DeletesAlwaysWrite]),
+    (
+        "nothing-tombstone-keeps-its-position",
+        &[Mistake::TombstonesWrittenAgain, Mistake::TombstonesRenewed],
+    ),
+    (
+        "nothing-tombstone-dropped-at-its-first-age",
+        &[Mistake::TombstonesWrittenAgain, Mistake::TombstonesRenewed],
+    ),
+    (
+        "nothing-old-tombstone",
+        &[Mistake::TombstonesWrittenAgain, Mistake::TombstonesRenewed],
+    ),
+    (
+        "nothing-in-a-full-pool",
+        &[Mistake::DeletesAlwaysWrite, Mistake::AbsentDeletesNeedRoom],
+    ),
+    ("nothing-beside-a-put", &[Mistake::AbsentDeletesNeedRoom]),
+    (
+        "nothing-old-tombstone-needs-no-room",
+        &[
+            Mistake::TombstoneDeletesNeedRoom,
+            Mistake::TombstonesWrittenAgain,
+        ],
+    ),
+    (
+        "nothing-when-it-was-written",
+        &[Mistake::DeletesDoNotConflict, Mistake::DeletesWriteNothing],
+    ),
+    (
+        "nothing-still-conflicts",
+        &[Mistake::NothingNotNamed, Mistake::DeletesDoNotConflict],
+    ),
+    (
+        "nothing-has-its-looks",
+        &[Mistake::AbsentDeleteNotNamed, Mistake::NothingNotNamed],
+    ),
+    (
+        "nothing-takes-a-position",
+        &[Mistake::NothingTakesNoPosition],
+    ),
+    (
+        "nothing-only-if-not-live",
+        &[Mistake::DeletesWriteNothing, Mistake::DeleteRemoves],
+    ),
+    ("nothing-drops-nothing", &[Mistake::DroppedForNothing]),
+    (
+        "nothing-at-exactly-n",
+        &[Mistake::DroppedForNothing, Mistake::NeverDropped],
+    ),
+    ("nothing-after-a-drop", &[Mistake::AbsentDeletesNeedRoom]),
+    ("nothing-64-keys", &[Mistake::DeletesAlwaysWrite]),
+    ("nothing-1024-keys", &[Mistake::AbsentDeletesNeedRoom]),
+    (
+        "nothing-but-two-of-65-keys",
+        &[Mistake::LaterWritesLost, Mistake::DeletesAlwaysWrite],
+    ),
+    ("nothing-of-a-refused-put", &[Mistake::DeletesAlwaysWrite]),
+    (
+        "nothing-the-second-time",
+        &[Mistake::TombstonesWrittenAgain, Mistake::TombstonesRenewed],
+    ),
+    (
+        "nothing-of-keys-0-and-highest",
+        &[Mistake::DeletesAlwaysWrite],
+    ),
+    (
+        "tombstones-make-exactly-enough",
+        &[Mistake::NeverDropped, Mistake::DroppedEarly],
+    ),
+    ("tombstones-are-leaves", &[Mistake::DeleteRemoves]),
+    (
+        "tombstones-dropped-with-their-node",
+        &[Mistake::NeverDropped],
+    ),
+    ("tombstones-behind-64-points", &[Mistake::LaterWritesLost]),
+];
+
+#[test]
+fn each_case_of_deletes_catches_the_mistakes_that_it_is_made_for() {
+    let cases = ideas::nothing::all();
+    assert_eq!(cases.len(), NOTHING.len());
+    for (case, (name, mistakes)) in cases.iter().zip(NOTHING) {
+        assert_eq!(case.name, *name);
+        for &mistake in *mistakes {
+            assert!(shows(case, Some(mistake)), "{name}: {}", mistake.words());
+        }
+    }
+}
+
+/// R55: what a card of before makes of 210, where it parts at the third record.
+#[test]
+fn a_card_that_writes_every_delete_parts_at_the_first_delete_of_nothing() {
+    let rows = &ideas::nothing::all()[0].input;
+    assert_eq!(
+        lines(Some(Mistake::DeletesAlwaysWrite), rows),
+        "1 0 0\n2 0 1\n3 1 4\n4 3 1\n5 0 1\n6 0 1\n7 0 1\n8 3 1\nend\n"
+    );
+}
+
 #[test]
 fn each_case_of_version_2_catches_the_mistakes_that_it_is_made_for() {
     let cases = ideas::larger::all();
@@ -255,6 +368,11 @@ fn numbers_do_not_change() {
         "200-log-length-13834-first.input",
         "201-parts-version-2.input",
         "208-reason-point-numbers-above-255.input",
+        "209-reason-scan-numbers-above-8.input",
+        "210-nothing-eight-rows.input",
+        "236-tombstones-behind-64-points.input",
+        "237-reason-first-delete.input",
+        "242-reason-reads-not-counted.input",
     ] {
         assert!(names.contains(name), "{name}");
     }
@@ -326,10 +444,26 @@ const MADE_FOR: &[(ReasonMistake, &str)] = &[
     (ReasonMistake::KeysBeyondN, "reason-keys-beyond-n"),
     (ReasonMistake::KeysIsN, "reason-keys-beyond-n"),
     (
-        ReasonMistake::DeletesNotCounted,
+        ReasonMistake::KeysWithCommitted,
         "reason-keys-deleted-and-read",
     ),
-    (ReasonMistake::ReadsCounted, "reason-keys-deleted-and-read"),
+    (ReasonMistake::NothingBlamed, "reason-first-delete"),
+    (ReasonMistake::FirstWrite, "reason-first-delete"),
+    (
+        ReasonMistake::DeletesAlwaysWrite,
+        "reason-nothing-passed-over",
+    ),
+    (ReasonMistake::PointsOfItsKind, "reason-deletes-in-conflict"),
+    (ReasonMistake::NothingCounted, "reason-nothing-not-counted"),
+    (
+        ReasonMistake::NothingCounted,
+        "reason-old-tombstone-deleted",
+    ),
+    (
+        ReasonMistake::OldTombstonesCounted,
+        "reason-old-tombstone-deleted",
+    ),
+    (ReasonMistake::ReadsCounted, "reason-reads-not-counted"),
     (
         ReasonMistake::TombstonesNotCounted,
         "reason-young-tombstones",

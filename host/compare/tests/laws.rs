@@ -7,7 +7,7 @@ use reference::pages::{calls, cut};
 use reference::program::{join, lines, run, split};
 use reference::random::Random;
 use reference::refresh::{in_force, refresh};
-use reference::{Answer, Ending, Fed, Limits, Point, Record, Said, Scan, State, Verdict};
+use reference::{Answer, Ending, Fed, Kind, Limits, Point, Record, Said, Scan, State, Verdict};
 
 /// The limits and the records of a seed's input, if its limits are good and it
 /// is not too long to keep every state of it.
@@ -216,8 +216,9 @@ fn refresh_chains_keep_the_verdict_in_no_more_looks() {
     assert!(of_version_2 > 10, "{of_version_2}");
 }
 
-/// R54: a log that led to "end" by the rule of before, with no 2 for a version, has the
-/// verdicts and looks of then; and a log that has one parts from it there.
+/// R54: a log that led to "end" by the rule of versions and lengths of before, with no 2
+/// for a version, has the verdicts and looks that it has by that rule and all others of
+/// today; and a log that has one parts from it there.
 #[test]
 fn a_log_of_before_has_its_verdicts() {
     let (mut same, mut parted, mut stopped) = (0, 0, 0);
@@ -255,6 +256,41 @@ fn a_log_of_before_has_its_verdicts() {
         same > 1_000 && parted > 20 && stopped > 20,
         "{same} {parted} {stopped}"
     );
+}
+
+/// R55: where deletes of keys that are not live are written, as they once were, a log has
+/// the verdicts and looks of today up to the first of them that commits.
+#[test]
+fn a_card_that_writes_every_delete_parts_at_the_first_delete_of_nothing() {
+    let (mut same, mut parted) = (0, 0);
+    for seed in 0..2_000 {
+        let input = generate::input(seed);
+        let Some((limits, records)) = short_log(seed) else {
+            continue;
+        };
+        let mut state = State::new(limits);
+        let first = records.iter().position(|part| {
+            let before = state.clone();
+            let committed = state.meld(part).answer == Answer::Committed;
+            let points = Record::parse(part).map_or(Vec::new(), |record| record.points);
+            let nothing = |point: &Point| point.kind == Kind::Delete && !before.writes(point);
+            committed && points.iter().any(nothing)
+        });
+        let before = mistaken::lines(Some(Mistake::DeletesAlwaysWrite), &input);
+        let today = lines(&input);
+        match first {
+            None => {
+                assert_eq!(before, today, "seed {seed}");
+                same += 1;
+            }
+            Some(place) => {
+                let then = before.lines().take(place);
+                assert!(then.eq(today.lines().take(place)), "seed {seed}");
+                parted += usize::from(before != today);
+            }
+        }
+    }
+    assert!(same > 100 && parted > 1_000, "{same} {parted}");
 }
 
 #[test]

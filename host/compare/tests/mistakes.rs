@@ -50,6 +50,10 @@ fn without_a_mistake_nothing_differs() {
     }
 }
 
+/// How many logs that show a mistake are cut down; the smallest counts, since from a
+/// malformed record points cannot go.
+const FEW: usize = 3;
+
 /// Those that show only in a record of 256 points or more, or in one that is malformed behind
 /// its 64th point or 8th scan, from which points cannot go.
 const LARGE: &[Mistake] = &[
@@ -68,10 +72,16 @@ fn every_mistake_is_caught_and_cut_down() {
     for &mistake in Mistake::ALL {
         let program = |trial: &Trial| Ok(lines(Some(mistake), &trial.input));
         let mut differs = |trial: &Trial| difference(Setting::default(), &program, trial).is_some();
-        let place = trials.iter().position(&mut differs);
-        let place = place.unwrap_or_else(|| panic!("not caught: {}", mistake.words()));
-        let small = shrink(MOST_N, &trials[place], &mut differs).input.len();
-        println!("{mistake:?}: seed {place}, cut down to {small} bytes");
+        let found: Vec<usize> = (0..trials.len())
+            .filter(|&seed| differs(&trials[seed]))
+            .take(FEW)
+            .collect();
+        let small = found
+            .iter()
+            .map(|&seed| shrink(MOST_N, &trials[seed], &mut differs).input.len())
+            .min()
+            .unwrap_or_else(|| panic!("not caught: {}", mistake.words()));
+        println!("{mistake:?}: seeds {found:?}, cut down to {small} bytes");
         let most = match LARGE.contains(&mistake) {
             true => 14_000,
             false => 1_000,
@@ -98,13 +108,17 @@ fn every_mistake_of_feeding_is_caught_by_lines_and_cut_down() {
     for &mistake in FeedMistake::ALL {
         let program = misfed(Some(mistake));
         let mut differs = |trial: &Trial| difference(PARTS, &program, trial).is_some();
-        let found = trials.iter().find(|trial| differs(trial));
+        let found = trials.iter().filter(|trial| differs(trial));
+        let found: Vec<&Trial> = found.take(FEW).collect();
         if FeedMistake::IN_CALLS_ONLY.contains(&mistake) {
-            assert_eq!(found, None, "lines show it: {}", mistake.words());
+            assert!(found.is_empty(), "lines show it: {}", mistake.words());
             continue;
         }
-        let found = found.unwrap_or_else(|| panic!("not caught: {}", mistake.words()));
-        let small = shrink(MOST_N, found, &mut differs);
+        let small = found
+            .iter()
+            .map(|trial| shrink(MOST_N, trial, &mut differs))
+            .min_by_key(|small| small.input.len())
+            .unwrap_or_else(|| panic!("not caught: {}", mistake.words()));
         let (bytes, sizes) = (small.input.len(), small.sizes.unwrap_or_default());
         println!("{mistake:?}: cut down to {bytes} bytes, sizes {sizes:?}");
         let most = match mistake {
@@ -157,7 +171,11 @@ fn every_mistake_in_reasons_is_caught_and_cut_down() {
         let mut differs = |trial: &Trial| difference(REASONS, &program, trial).is_some();
         let found: Vec<&Trial> = trials.iter().filter(|trial| differs(trial)).collect();
         assert!(found.len() > 2, "not caught: {}", mistake.words());
-        let small = shrink(REASONS.most(), found[0], &mut differs).input.len();
+        let small = found[..FEW]
+            .iter()
+            .map(|trial| shrink(REASONS.most(), trial, &mut differs).input.len())
+            .min()
+            .unwrap_or(0);
         println!(
             "{mistake:?}: {} logs, cut down to {small} bytes",
             found.len()

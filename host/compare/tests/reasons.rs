@@ -1,7 +1,7 @@
 //! The logs from seeds have every edge of R50 in them, often; and what R50 and R51 say
 //! is true of every record of theirs.
 
-use std::collections::BTreeMap;
+use std::collections::{BTreeMap, BTreeSet};
 
 use compare::generate;
 use reference::log::parts;
@@ -24,7 +24,7 @@ fn conflict_edges(
     state: &State,
     record: &Record,
     (key, position, touch): (u32, u32, Touch),
-    refused: &[Write],
+    (refused, nothing): (&[Write], &[Write]),
     tally: &mut Tally,
 ) {
     let mut add = |name, met: bool| *tally.entry(name).or_default() += usize::from(met);
@@ -118,6 +118,7 @@ fn conflict_edges(
     );
     let later = |write: &Write| write.key == key && write.position > position;
     add("a refused record wrote it later", refused.iter().any(later));
+    add("it was deleted again later", nothing.iter().any(later));
     add("key 0", key == 0);
     add("key 4,294,967,295", key == u32::MAX);
 }
@@ -142,7 +143,7 @@ fn room_edges(state: &State, record: &Record, keys: u32, tally: &mut Tally) {
         record
             .points
             .iter()
-            .any(|point| point.key == key && point.writes())
+            .any(|point| point.key == key && state.writes(point))
     };
     let kept =
         |is: &dyn Fn(u32, &Kept) -> bool| state.kept().iter().any(|(&key, kept)| is(key, kept));
@@ -173,7 +174,7 @@ fn room_edges(state: &State, record: &Record, keys: u32, tally: &mut Tally) {
         "no room, an old tombstone's key written",
         kept(&|key, kept| old(kept) && written(key)),
     );
-    let read = |point: &Point| !point.writes() && !state.kept().contains_key(&point.key);
+    let read = |point: &Point| point.kind == Kind::Read && !state.kept().contains_key(&point.key);
     add(
         "no room, an absent key read",
         record.points.iter().any(read),
@@ -186,13 +187,26 @@ fn room_edges(state: &State, record: &Record, keys: u32, tally: &mut Tally) {
             .iter()
             .any(|point| deleted(point) && !state.kept().contains_key(&point.key)),
     );
+    let tombstone = |point: &Point, is: &dyn Fn(&Kept) -> bool| {
+        deleted(point) && state.kept().get(&point.key).is_some_and(is)
+    };
+    let mut points = record.points.iter();
+    add(
+        "no room, an old tombstone deleted",
+        points.clone().any(|point| tombstone(point, &old)),
+    );
+    add(
+        "no room, a young tombstone deleted",
+        points.any(|point| tombstone(point, &young)),
+    );
 }
 
 /// Counts the edges of one log.
 fn log_edges(limits: Limits, records: &[Vec<u8>], tally: &mut Tally) {
     let mut state = State::new(limits);
-    // What refused records would have written.
-    let mut refused = Vec::new();
+    // What refused records would have written, and what committed ones deleted that was
+    // not live.
+    let (mut refused, mut nothing) = (Vec::new(), Vec::new());
     for part in records {
         let explained = explain(&state, part);
         let position = state.position() + 1;
@@ -204,17 +218,23 @@ fn log_edges(limits: Limits, records: &[Vec<u8>], tally: &mut Tally) {
                     position,
                     touch,
                 } => {
-                    conflict_edges(&state, &record, (key, position, touch), &refused, tally);
+                    let others = (&refused[..], &nothing[..]);
+                    conflict_edges(&state, &record, (key, position, touch), others, tally);
                 }
                 Reason::TooOld { lag } => lag_edges(&state, &record, lag, tally),
                 Reason::NoRoom { keys } => room_edges(&state, &record, keys, tally),
             }
-            if explained.verdict.answer.number() != 0 {
-                let writes = record.points.iter().filter(|point| point.writes());
-                refused.extend(writes.map(|point| Write {
-                    position,
-                    key: point.key,
-                }));
+            let write = |point: &Point| Write {
+                position,
+                key: point.key,
+            };
+            let (writes, others): (Vec<Point>, Vec<Point>) =
+                record.points.iter().partition(|point| state.writes(point));
+            if explained.verdict.answer == Answer::Committed {
+                let deletes = others.iter().filter(|point| point.kind == Kind::Delete);
+                nothing.extend(deletes.map(write));
+            } else {
+                refused.extend(writes.iter().map(write));
             }
         }
         state.meld(part);
@@ -265,8 +285,10 @@ fn every_reason_is_true() {
             continue;
         };
         let mut state = State::new(limits);
-        // Who committed, and where: each record's writes, none of a refused one.
+        // Who committed, and where: each record's writes, none of a refused one; and the
+        // keys that are live after them.
         let mut wrote: Vec<Vec<u32>> = Vec::new();
+        let mut live: BTreeSet<u32> = BTreeSet::new();
         for bytes in &records {
             let (p, explained) = (state.position(), explain(&state, bytes));
             let melded = state.clone().meld(bytes);
@@ -312,7 +334,12 @@ fn every_reason_is_true() {
                 .ok()
                 .filter(|_| answer == Answer::Committed);
             let points = committed.map_or(Vec::new(), |record| record.points);
-            let writes = points.iter().filter(|point| point.writes());
+            let writes = |point: &&Point| match point.kind {
+                Kind::Read => false,
+                Kind::Put(_) => live.insert(point.key) || live.contains(&point.key),
+                Kind::Delete => live.remove(&point.key),
+            };
+            let writes = points.iter().filter(writes);
             wrote.push(writes.map(|point| point.key).collect());
             state.meld(bytes);
         }

@@ -92,15 +92,15 @@ impl<B: AsRef<[u8]>> Pool<B> {
     /// use emuparasol::{pool_bytes, Error, Limits, Point, Pool, Record};
     ///
     /// let mut pool = Pool::create([0; pool_bytes(3)], Limits { n: 3, z: 4 })?;
-    /// let snapshot = pool.status()?.position;
-    /// let points = &[Point::put(10, 100), Point::delete(20)];
-    /// let record = Record { snapshot, points, scans: &[] };
-    /// let mut output = [0; 30];
-    /// pool.meld(record.write(&mut output)?)?.verdict.committed()?;
-    ///
+    /// for points in [[Point::put(10, 100), Point::put(20, 200)], [Point::read(10), Point::delete(20)]] {
+    ///     let snapshot = pool.status()?.position;
+    ///     let record = Record { snapshot, points: &points, scans: &[] };
+    ///     let mut output = [0; 40];
+    ///     pool.meld(record.write(&mut output)?)?.verdict.committed()?;
+    /// }
     /// let status = pool.status()?;
     /// assert_eq!(status.limits, Limits { n: 3, z: 4 });
-    /// assert_eq!(status.position, 1);
+    /// assert_eq!(status.position, 2);
     /// assert_eq!((status.kept, status.tombstones), (2, 1));
     /// # Ok::<(), Error>(())
     /// ```
@@ -191,17 +191,26 @@ impl<B: AsMut<[u8]>> Pool<B> {
 
     /// Decides the log's next record, and stores what it commits. With `Ok` the
     /// record has taken its position, whatever the verdict is; with an error nothing
-    /// has changed.
+    /// has changed. Written are the keys of its puts, and of its deletes those that are
+    /// live before it: deleting what is not there writes nothing (R22). Cards from before
+    /// this rule wrote it: docs/FIRMWARE.md, "Moving to deletes that write nothing".
     ///
     /// # Errors
     /// [`Error::UnfitPool`], or else [`Error::PositionsUsedUp`].
     ///
     /// ```
-    /// use emuparasol::{pool_bytes, Error, Limits, Pool, Verdict};
+    /// use emuparasol::{pool_bytes, Error, Limits, Point, Pool, Record, Verdict, MOST_RECORD};
     ///
     /// let mut pool = Pool::create([0; pool_bytes(3)], Limits { n: 3, z: 4 })?;
     /// // Refused, and position 1 is taken.
     /// assert_eq!(pool.meld(b"no record")?.verdict, Verdict::Malformed);
+    ///
+    /// // A thousand ports that nobody has leased are cleaned, in a pool for three keys.
+    /// let ports: Vec<Point> = (5_000..6_000).map(Point::delete).collect();
+    /// let mut output = vec![0; MOST_RECORD];
+    /// let clean = Record { snapshot: 1, points: &ports, scans: &[] };
+    /// assert_eq!(pool.meld(clean.write(&mut output)?)?.verdict, Verdict::Committed);
+    /// assert_eq!(pool.status()?.kept, 0);
     ///
     /// let mut pool = Pool::from_bytes(*b"no pool");
     /// assert_eq!(pool.meld(b"no record"), Err(Error::UnfitPool));

@@ -68,7 +68,7 @@ pub enum Reason {
     NoRoom {
         /// How many keys would have to be kept: more than N. Those that are live, those
         /// with a tombstone that is too young to be dropped, and those that the record
-        /// writes, each once.
+        /// writes, each once; a delete of a key that is not live writes nothing.
         keys: u32,
     },
 }

@@ -34,7 +34,10 @@ pub enum Point {
         /// What is put.
         payload: u64,
     },
-    /// The key is deleted, whether or not anything was under it.
+    /// The key is deleted, if it is live then. Where nothing is under it, because it was
+    /// never put or is deleted already, this writes nothing (R22): it beats no other
+    /// record and needs no room. The record names the key all the same, and is itself
+    /// beaten by who wrote it.
     Delete {
         /// The key.
         key: u32,

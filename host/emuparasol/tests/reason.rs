@@ -50,6 +50,20 @@ fn the_eleven_rows() {
 }
 
 #[test]
+fn the_eight_rows() {
+    let (mut pool, mut state) = (fresh(limits()), State::new(limits()));
+    for (index, record) in table::records_of_nothing().iter().enumerate() {
+        let bytes = record.to_bytes();
+        let reason = match index {
+            4 => [20, 4, 1, 0, 0, 0],
+            _ => NONE,
+        };
+        assert_eq!(explain_both(&pool, &state, &bytes), reason);
+        meld_both(&mut pool, &mut state, &bytes);
+    }
+}
+
+#[test]
 fn logs_from_seeds() {
     let (mut points, mut scans, mut old, mut full) = (0, 0, 0, 0);
     for seed in 0..260 {

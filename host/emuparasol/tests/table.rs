@@ -1,13 +1,13 @@
-//! The eleven rows of R44.
+//! The eleven rows of R44, and the eight of R55.
 
 use emuparasol::{
     check, in_force, pool_bytes, Error, Found, Limits, Point, Pool, Record, RecordBuffer, Records,
     Scan, Verdict,
 };
 use reference::program::split;
-use reference::table::{self, PUT_30_SCAN, READ_30, VERDICTS};
+use reference::table::{self, PUT_30_SCAN, READ_30, VERDICTS, VERDICTS_OF_NOTHING};
 
-/// A new pool with the limits of R44.
+/// A new pool with the limits of both logs.
 fn fresh() -> Pool<[u8; pool_bytes(table::N)]> {
     let (n, z) = (table::N, table::Z);
     Pool::create([0xEE; pool_bytes(table::N)], Limits { n, z }).expect("good limits")
@@ -32,6 +32,21 @@ fn the_eleven_rows() {
     let found = |found: Found| (found.payload, found.position);
     let kept = [10, 20, 30, 40].map(|key| pool.lookup(key).expect("a fit pool").map(found));
     assert_eq!(kept, [Some((100, 1)), None, Some((300, 3)), Some((400, 9))]);
+}
+
+#[test]
+fn the_eight_rows() {
+    let mut pool = fresh();
+    for (record, wanted) in table::records_of_nothing().iter().zip(VERDICTS_OF_NOTHING) {
+        let melded = pool.meld(&record.to_bytes()).expect("a position");
+        assert_eq!((melded.verdict.number(), melded.looks), wanted);
+    }
+    let found = |found: Found| (found.payload, found.position);
+    let kept = [10, 15, 20, 25, 30, 40].map(|key| pool.lookup(key).expect("a fit pool").map(found));
+    let (ten, thirty, forty) = (Some((100, 1)), Some((300, 4)), Some((400, 8)));
+    assert_eq!(kept, [ten, None, None, None, thirty, forty]);
+    let status = pool.status().expect("a fit pool");
+    assert_eq!((status.kept, status.tombstones), (3, 0));
 }
 
 #[test]

@@ -4,8 +4,8 @@
 //!
 //! From the bottom up: `answer`, `flaw`, `version`, `record`, `lists`, `log`, `tree`, `state`,
 //! `refresh`, `feed`, `program`, `pages`, `reason`; `layout` for the bytes of a pool.
-//! `table` has the eleven rows of R44, `words` puts inputs into words, `random` is for
-//! tests and for the tool that compares.
+//! `table` has the eleven rows of R44 and the eight of R55, `words` puts inputs into words,
+//! `random` is for tests and for the tool that compares.
 #![forbid(unsafe_code)]
 
 pub mod answer;

@@ -70,11 +70,6 @@ impl Point {
         let kind = Kind::Delete;
         Point { key, kind }
     }
-
-    /// Is it a put or a delete?
-    pub fn writes(&self) -> bool {
-        self.kind != Kind::Read
-    }
 }
 
 impl Record {

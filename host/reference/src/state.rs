@@ -3,7 +3,7 @@
 use std::collections::{BTreeMap, BTreeSet};
 
 use crate::answer::Answer;
-use crate::record::{Kind, Record};
+use crate::record::{Kind, Point, Record};
 use crate::tree::Tree;
 
 /// N and Z, each in its range.
@@ -48,7 +48,7 @@ pub struct Kept {
 pub struct Write {
     /// The record's position.
     pub position: u32,
-    /// The key put or deleted.
+    /// The key that it wrote (R22).
     pub key: u32,
 }
 
@@ -218,6 +218,22 @@ impl State {
         zone.filter(|write| record.touches(write.key))
     }
 
+    /// R22: does a record with this point write its key? A put does; a delete does
+    /// if the key is live at p.
+    pub fn writes(&self, point: &Point) -> bool {
+        match point.kind {
+            Kind::Read => false,
+            Kind::Put(_) => true,
+            Kind::Delete => self.lookup(point.key).is_some(),
+        }
+    }
+
+    /// R22: the points of a record whose keys it writes.
+    fn written(&self, record: &Record) -> Vec<Point> {
+        let points = record.points.iter().copied();
+        points.filter(|point| self.writes(point)).collect()
+    }
+
     /// R26's count: live keys, tombstones w with w + Z > v, and the keys this
     /// record writes, each key once.
     pub fn needed(&self, record: &Record) -> usize {
@@ -226,7 +242,7 @@ impl State {
             .iter()
             .filter(|(_, kept)| !self.old_tombstone(kept));
         let mut keys: BTreeSet<u32> = staying.map(|(&key, _)| key).collect();
-        keys.extend(written_keys(record));
+        keys.extend(self.written(record).iter().map(|point| point.key));
         keys.len()
     }
 
@@ -252,10 +268,12 @@ impl State {
         Tree::build(&keys).map_or((0, false), |tree| tree.search(record))
     }
 
-    /// The drop (R27), if it is needed, then the writes at v (R28).
+    /// The drop (R27), if it is needed, then the writes at v (R28). What is written is
+    /// asked of the state before the drop.
     fn store(&mut self, record: &Record) {
+        let written = self.written(record);
         let mut together: BTreeSet<u32> = self.kept.keys().copied().collect();
-        together.extend(written_keys(record));
+        together.extend(written.iter().map(|point| point.key));
         if together.len() > self.limits.n as usize {
             let old: Vec<u32> = self
                 .kept
@@ -268,26 +286,13 @@ impl State {
             }
         }
         let position = self.position + 1;
-        for point in &record.points {
-            let payload = match point.kind {
-                Kind::Read => continue,
+        for Point { key, kind } in written {
+            let payload = match kind {
                 Kind::Put(payload) => Some(payload),
-                Kind::Delete => None,
+                _ => None,
             };
-            self.kept.insert(point.key, Kept { position, payload });
-            self.committed.push(Write {
-                position,
-                key: point.key,
-            });
+            self.kept.insert(key, Kept { position, payload });
+            self.committed.push(Write { position, key });
         }
     }
-}
-
-/// The keys a record puts or deletes (R22).
-fn written_keys(record: &Record) -> impl Iterator<Item = u32> + '_ {
-    record
-        .points
-        .iter()
-        .filter(|point| point.writes())
-        .map(|point| point.key)
 }

@@ -1,11 +1,12 @@
-//! The log to check by, R44: its eleven records, and two of them byte by byte.
+//! The log to check by, R44: its eleven records, and two of them byte by byte; and the
+//! eight of R55, which delete nothing.
 
 use crate::program::join;
 use crate::record::{Point, Record, Scan};
 
-/// N of the log to check by.
+/// N of both logs.
 pub const N: u32 = 3;
-/// Z of the log to check by.
+/// Z of both logs.
 pub const Z: u32 = 4;
 
 /// The answers and looks of the eleven rows.
@@ -20,6 +21,18 @@ pub const VERDICTS: [(u8, u32); 11] = [
     (2, 0),
     (0, 1),
     (5, 0),
+    (0, 1),
+];
+
+/// The answers and looks of the eight rows.
+pub const VERDICTS_OF_NOTHING: [(u8, u32); 8] = [
+    (0, 0),
+    (0, 1),
+    (0, 1),
+    (0, 1),
+    (1, 4),
+    (0, 1),
+    (0, 1),
     (0, 1),
 ];
 
@@ -66,6 +79,20 @@ pub fn records() -> Vec<Record> {
     ]
 }
 
+/// The eight records of R55.
+pub fn records_of_nothing() -> Vec<Record> {
+    vec![
+        record(0, &[Point::put(10, 100), Point::put(20, 200)]),
+        record(1, &[Point::delete(15)]),
+        scanning(1, &[], &[(11, 19)]),
+        record(3, &[Point::delete(20), Point::put(30, 300)]),
+        record(3, &[Point::delete(20)]),
+        record(5, &[Point::delete(25)]),
+        record(6, &[Point::delete(20)]),
+        record(7, &[Point::put(40, 400)]),
+    ]
+}
+
 /// The bytes of records back to back, whether or not they keep the rules.
 pub fn log(records: &[Record]) -> Vec<u8> {
     records.iter().flat_map(Record::to_bytes).collect()
@@ -73,7 +100,17 @@ pub fn log(records: &[Record]) -> Vec<u8> {
 
 /// The log to check by as the program reads it.
 pub fn input() -> Vec<u8> {
+    input_of(records())
+}
+
+/// The log of R55 as the program reads it.
+pub fn input_of_nothing() -> Vec<u8> {
+    input_of(records_of_nothing())
+}
+
+/// Rows with the limits of both logs.
+fn input_of(rows: Vec<Record>) -> Vec<u8> {
     let written = |record: Record| record.written().expect("the rows keep the rules");
-    let log: Vec<u8> = records().into_iter().flat_map(written).collect();
+    let log: Vec<u8> = rows.into_iter().flat_map(written).collect();
     join(N, Z, &log)
 }

@@ -151,7 +151,9 @@ fn the_keys_that_have_to_find_room_each_once() {
             Point::put(1, 2),
             Point::read(2),
             Point::put(4, 2),
+            // Not live, and so not counted.
             Point::delete(6),
+            Point::put(7, 1),
             Point::put(8, 1),
         ],
     );

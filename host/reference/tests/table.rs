@@ -1,4 +1,4 @@
-//! The eleven rows of R44, two of their byte strings, edges and easy mistakes.
+//! The eleven rows of R44 and the eight of R55, their byte strings, edges and easy mistakes.
 
 use reference::program::{join, lines, lines_unread, lines_up_to, run, FULL_N, MOST_N};
 use reference::table::{self, log, record, scanning};
@@ -42,6 +42,61 @@ fn the_eleven_lines() {
 }
 
 #[test]
+fn the_eight_rows() {
+    let found = verdicts(table::N, table::Z, &table::records_of_nothing());
+    assert_eq!(found, table::VERDICTS_OF_NOTHING);
+    let state = run(&table::input_of_nothing()).unwrap().state;
+    assert_eq!(
+        state.kept().keys().copied().collect::<Vec<_>>(),
+        [10, 30, 40]
+    );
+    assert_eq!(state.lookup(10), Some((100, 1)));
+    assert_eq!(state.lookup(30), Some((300, 4)));
+    assert_eq!(state.lookup(40), Some((400, 8)));
+}
+
+#[test]
+fn the_eight_lines() {
+    let expected = "1 0 0\n2 0 1\n3 0 1\n4 0 1\n5 1 4\n6 0 1\n7 0 1\n8 0 1\n";
+    assert_eq!(
+        lines(&table::input_of_nothing()),
+        format!("{expected}end\n")
+    );
+}
+
+/// The rows of a rule that docs/RULES.md prints: bytes, answer and looks.
+fn printed(rule: &str) -> Vec<(Vec<u8>, (u8, u32))> {
+    let page = include_str!("../../../docs/RULES.md");
+    let start = page
+        .find(&format!("\n**{rule}. "))
+        .expect("the rule is there");
+    let lines = page[start..].lines();
+    let table = lines.skip_while(|line| !line.starts_with('|')).skip(2);
+    let table = table.take_while(|line| line.starts_with('|'));
+    let row = |line: &str| {
+        let cells: Vec<&str> = line.split('|').map(str::trim).collect();
+        let bytes = cells[3].trim_matches('`').split(' ');
+        let bytes = bytes.map(|byte| u8::from_str_radix(byte, 16).expect("a byte"));
+        let verdict = (cells[4].parse().unwrap(), cells[5].parse().unwrap());
+        (bytes.collect(), verdict)
+    };
+    table.map(row).collect()
+}
+
+#[test]
+fn both_tables_are_as_printed() {
+    let of = |records: Vec<Record>, verdicts: &[(u8, u32)]| -> Vec<(Vec<u8>, (u8, u32))> {
+        let bytes = records.iter().map(|record| record.written().unwrap());
+        bytes.zip(verdicts.iter().copied()).collect()
+    };
+    assert_eq!(printed("R44"), of(table::records(), &table::VERDICTS));
+    assert_eq!(
+        printed("R55"),
+        of(table::records_of_nothing(), &table::VERDICTS_OF_NOTHING)
+    );
+}
+
+#[test]
 fn the_two_byte_strings() {
     let read = record(1, &[Point::read(30)]);
     let put = scanning(1, &[Point::put(30, 300)], &[(11, 19)]);
@@ -80,12 +135,12 @@ fn edges_of_the_room() {
     let puts = |count| record(0, &(0..count).map(|k| Point::put(k, 1)).collect::<Vec<_>>());
     assert_eq!(answers(3, 4, &[puts(3)]), [0]);
     assert_eq!(answers(3, 4, &[puts(4)]), [3]);
-    assert_eq!(answers(1, 4, &[record(0, &[Point::delete(7)])]), [0]);
-    let second = record(1, &[Point::put(8, 0)]);
-    assert_eq!(
-        answers(1, 4, &[record(0, &[Point::delete(7)]), second]),
-        [0, 3]
-    );
+    let log = [
+        record(0, &[Point::put(7, 1)]),
+        record(1, &[Point::delete(7)]),
+        record(2, &[Point::put(8, 0)]),
+    ];
+    assert_eq!(answers(1, 4, &log), [0, 0, 3]);
 }
 
 #[test]

@@ -45,7 +45,7 @@ fn points() -> Vec<Case> {
         ),
         melds(
             "conflict-with-an-absent-delete",
-            "A delete of an absent key lost: it is a write all the same.",
+            "A delete of an absent key that beats a read or a put: it is no write.",
             (2, 9),
             &[
                 record(0, &[Point::delete(7)]),

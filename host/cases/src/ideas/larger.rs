@@ -307,7 +307,8 @@ fn contents() -> Vec<Case> {
         ),
         melds(
             "version-2-writes-behind-64-points",
-            "Writes not stored behind the 64th point: the last put and the last delete are seen by later reads.",
+            "Writes not stored behind the 64th point: the last put is seen by a later read. The delete behind it, of a \
+             key that is not there, is not.",
             (100, 9),
             &[
                 record(0, &[&puts(69)[..], &[Point::delete(70)]].concat()),

@@ -108,7 +108,8 @@ pub fn all() -> Vec<Case> {
         ),
         melds(
             "looks-at-tombstones",
-            "Tombstones left out of the tree: they are leaves like others.",
+            "A leaf for a delete of an absent key: it keeps nothing, and the tree has the leaf of 1 \
+             alone.",
             (4, 9),
             &[
                 puts(0, &[1]),
@@ -119,8 +120,8 @@ pub fn all() -> Vec<Case> {
         ),
         melds(
             "looks-after-a-drop",
-            "An inner node that stays after one of its two keys is dropped: at 5 the tree has \
-             1, 5 and 9, and no node for 1 and 2.",
+            "An inner node for a key that is only deleted: at 5 the tree has 1, 5 and 9, and no node \
+             for 1 and 2.",
             (3, 1),
             &[
                 puts(0, &[1, 5]),

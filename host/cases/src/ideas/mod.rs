@@ -1,6 +1,6 @@
 //! The conformance set: small logs, one idea each, by section of docs/RULES.md.
-//! The snapshot read little-endian comes first, version 2 last. Module `parts` has those
-//! of the page form, module `reason` those for which the reasons matter.
+//! The snapshot read little-endian comes first, deletes that write nothing last. Module
+//! `parts` has those of the page form, module `reason` those for which the reasons matter.
 
 mod conflict;
 mod easy;
@@ -8,6 +8,7 @@ pub mod larger;
 mod limits;
 pub mod log;
 mod looks;
+pub mod nothing;
 pub mod parts;
 pub mod reason;
 mod record;
@@ -22,7 +23,7 @@ use crate::Case;
 
 /// Every idea of the program.
 pub fn all() -> Vec<Case> {
-    [first(), log::endings(), larger::all()].concat()
+    [first(), log::endings(), larger::all(), nothing::all()].concat()
 }
 
 /// Those that have the first numbers, in the order of the files.

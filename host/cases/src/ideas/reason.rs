@@ -35,7 +35,7 @@ fn nothing(snapshot: u32) -> Record {
 
 /// The cases.
 pub fn all() -> Vec<Case> {
-    [first(), larger()].concat()
+    [first(), larger(), of_nothing()].concat()
 }
 
 /// Those that have the first numbers.
@@ -291,7 +291,7 @@ fn counts() -> Vec<Case> {
         ),
         melds(
             "reason-keys-deleted-and-read",
-            "The keys deleted not counted, or the keys read: 1, 2 and 3 are three, 4 is only read.",
+            "A reason told of deletes of absent keys in a full pool: they need no room, and commit.",
             (2, 9),
             &[puts(0, &[1, 2]), record(1, &[Point::delete(3), Point::read(4)]), delete(2, 5)],
         ),
@@ -396,6 +396,71 @@ pub fn larger() -> Vec<Case> {
                 put(3, 644),
                 reading(4, &[], &scans),
             ],
+        ),
+    ]
+}
+
+/// Deletes of keys that are not live, which wrote nothing and are not counted.
+pub fn of_nothing() -> Vec<Case> {
+    vec![
+        melds(
+            "reason-first-delete",
+            "The last delete of a key told, not the last write: 7 was deleted at 2, 3 and 4, and those at 3 and 4 wrote \
+             nothing.",
+            (5, 9),
+            &[put(0, 7), delete(1, 7), delete(2, 7), delete(3, 7), reads(0, &[7]), reading(1, &[], &[(0, 9)])],
+        ),
+        melds(
+            "reason-nothing-passed-over",
+            "A smaller key told that was only deleted, and was not there: 3 was not written, 7 was.",
+            (5, 9),
+            &[
+                put(0, 7),
+                record(1, &[Point::delete(3), Point::put(7, 2)]),
+                reading(1, &[], &[(0, 9)]),
+                reads(1, &[3, 7]),
+            ],
+        ),
+        melds(
+            "reason-deletes-in-conflict",
+            "A delete that would write nothing not told as what touched the key: it is the second point, then the first.",
+            (5, 9),
+            &[
+                put(0, 7),
+                delete(1, 7),
+                record(1, &[Point::read(1), Point::delete(7)]),
+                record(0, &[Point::delete(7), Point::put(8, 1)]),
+            ],
+        ),
+        melds(
+            "reason-nothing-not-counted",
+            "The keys deleted counted that are not live: 1, 2 and 3 are three, then 1, 2, 5 and 6 four, and with 1 \
+             deleted, which is live, 1, 2 and 5 three.",
+            (2, 9),
+            &[
+                puts(0, &[1, 2]),
+                record(1, &[Point::put(3, 1), Point::delete(4)]),
+                record(2, &[Point::delete(4), Point::put(5, 1), Point::put(6, 1)]),
+                record(3, &[Point::delete(1), Point::put(5, 1)]),
+            ],
+        ),
+        melds(
+            "reason-old-tombstone-deleted",
+            "A key with an old tombstone counted where the record deletes it: 2, 3 and 4 are three. At 3 it is young, and \
+             counted once.",
+            (2, 2),
+            &[
+                puts(0, &[1, 2]),
+                delete(1, 1),
+                record(2, &[Point::delete(1), Point::put(3, 1)]),
+                record(3, &[Point::delete(1), Point::put(3, 1), Point::put(4, 1)]),
+            ],
+        ),
+        melds(
+            "reason-reads-not-counted",
+            "The keys read counted: 1, 2 and 3 are three, 4 is only read.",
+            (2, 9),
+            &[puts(0, &[1, 2]), record(1, &[Point::put(3, 1), Point::read(4)])],
         ),
     ]
 }

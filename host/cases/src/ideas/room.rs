@@ -59,7 +59,8 @@ fn keys() -> Vec<Case> {
         ),
         melds(
             "room-for-deletes",
-            "A delete of an absent key thought to need no room.",
+            "A delete of an absent key thought to need room, or to keep its key: two of them, and a \
+             put behind them, fit a pool for one.",
             (1, 4),
             &[delete(0, 1), delete(1, 2), put(2, 1)],
         ),
@@ -97,8 +98,8 @@ fn tombstones() -> Vec<Case> {
         ),
         melds(
             "tombstone-of-an-absent-key",
-            "A delete of an absent key that keeps nothing, or for ever: it needs room up to its \
-             age.",
+            "A tombstone kept for a delete of an absent key: there is none, and a put finds room \
+             right behind it.",
             (1, 2),
             &[delete(0, 1), put(1, 2), put(2, 2)],
         ),
@@ -118,7 +119,8 @@ fn tombstones() -> Vec<Case> {
         ),
         melds(
             "delete-of-a-tombstone",
-            "A second delete that is no write: the tombstone is as young as the last one.",
+            "A second delete that renews the tombstone: it is as old as the first one, and counts \
+             at 4 and not at 5.",
             (1, 3),
             &[
                 put(0, 1),
@@ -225,8 +227,8 @@ fn drops() -> Vec<Case> {
         ),
         melds(
             "drop-makes-exactly-enough",
-            "Old tombstones counted although they go: at 3 three old ones make room for three, \
-             not at 2.",
+            "Tombstones kept for deletes of three absent keys: there are none, and three puts find \
+             room right behind them. A fourth does not.",
             (3, 2),
             &[
                 record(0, &[Point::delete(1), Point::delete(2), Point::delete(3)]),

@@ -4,6 +4,7 @@
 use reference::program::join;
 use reference::random::Random;
 use reference::record::{MOST_POINTS, MOST_SCANS};
+use reference::state::Kept;
 use reference::version::{MOST_POINTS_OF_ONE, MOST_SCANS_OF_ONE};
 use reference::{Limits, Point, Record, Scan, State};
 
@@ -30,8 +31,25 @@ pub fn input(random: &mut Random) -> Vec<u8> {
     join(profile.n, profile.z, &log)
 }
 
-/// Puts and deletes of a few keys, with snapshot p.
+/// Puts and deletes of a few keys, with snapshot p; two in five delete again what was
+/// deleted a little before, and so write nothing.
 fn writer(profile: &Profile, state: &State, random: &mut Random) -> Record {
+    let young = |(_, kept): &(&u32, &Kept)| {
+        kept.payload.is_none() && kept.position + profile.z > state.position()
+    };
+    let deleted: Vec<u32> = state
+        .kept()
+        .iter()
+        .filter(young)
+        .map(|(&key, _)| key)
+        .collect();
+    if !deleted.is_empty() && random.percent(40) {
+        return Record {
+            snapshot: state.position(),
+            points: vec![Point::delete(random.pick(&deleted))],
+            scans: Vec::new(),
+        };
+    }
     let count = 1 + random.below(profile.points);
     let mut keys: Vec<u32> = (0..count).map(|_| random.pick(&profile.keys)).collect();
     keys.sort_unstable();

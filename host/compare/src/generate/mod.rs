@@ -13,6 +13,8 @@ pub mod profile;
 pub mod record;
 pub mod sizes;
 
+use std::collections::BTreeSet;
+
 use reference::log::parts;
 use reference::program::{join, split, FULL_N};
 use reference::random::Random;
@@ -118,14 +120,15 @@ fn longest_records(seed: u64) -> Vec<u8> {
     join(200, random.between(1, 12), &log)
 }
 
-/// A record of so many points and scans, all of them puts or none.
+/// A record of so many points and scans, all of its points of one kind.
 fn full_record(snapshot: u32, points: usize, scans: usize, random: &mut Random) -> Vec<u8> {
     let (key, step) = (random.between(0, 200), random.between(1, 3));
     let keys = (0..points as u32).map(|index| key + index * step);
-    let put = random.percent(70);
-    let point = |key| match put {
-        true => Point::put(key, 5),
-        false => Point::read(key),
+    let kind = random.below(100);
+    let point = |key| match kind {
+        0..=69 => Point::put(key, 5),
+        70..=84 => Point::delete(key),
+        _ => Point::read(key),
     };
     let scan = |low| Scan { low, high: low + 7 };
     let record = Record {
@@ -153,17 +156,24 @@ pub fn full_input(seed: u64) -> Vec<u8> {
 }
 
 /// 65,536 keys, one half of them in records of 64 and the other in records of 1,024; then
-/// one that is kept, one too many, one deleted, and the first again.
+/// one that is kept, one too many, deletes of keys that are not there, one that is deleted
+/// twice, and the first again.
 fn brimful(random: &mut Random) -> Vec<u8> {
     let step = random.pick(&[1, 3, 1_000, 65_535]);
     let keys: Vec<u32> = (0..=FULL_N).map(|index| index.wrapping_mul(step)).collect();
     let (kept, new) = keys.split_at(FULL_N as usize);
+    let kept_keys: BTreeSet<u32> = kept.iter().copied().collect();
+    let absent = (0..=u32::MAX).rev().filter(|key| !kept_keys.contains(key));
+    let mut absent: Vec<u32> = absent.take(MOST_POINTS).collect();
+    absent.reverse();
     let puts = |keys: &[u32]| keys.iter().map(|&key| Point::put(key, 7)).collect();
     let (front, back) = kept.split_at(kept.len() / 2);
     let mut points: Vec<Vec<Point>> = front.chunks(MOST_POINTS_OF_ONE).map(puts).collect();
     points.extend(back.chunks(MOST_POINTS).map(puts));
     points.push(puts(&kept[..1]));
     points.push(puts(new));
+    points.push(absent.into_iter().map(Point::delete).collect());
+    points.push(vec![Point::delete(kept[1])]);
     points.push(vec![Point::delete(kept[1])]);
     points.push(vec![Point::read(kept[0]), Point::read(kept[1])]);
     let record = |(index, points): (usize, Vec<Point>)| {

@@ -33,6 +33,10 @@ pub struct Profile {
     pub full: usize,
     /// Records with counts at the edges of both versions, up to 1,024 points and 64 scans.
     pub larger: usize,
+    /// Records that delete keys side by side, live or not.
+    pub ranges: usize,
+    /// Records with a delete besides: of a tombstone, of a live key or of another.
+    pub returns: usize,
     /// Logs with a spoiled end.
     pub spoiled: usize,
     /// Is a spoiled end at an edge of R14, three times in four?
@@ -43,15 +47,16 @@ impl Profile {
     /// A profile; tiny pools most often, since there the edges meet.
     pub fn choose(random: &mut Random) -> Profile {
         match random.below(100) {
-            0..=23 => Profile::tiny(random),
+            0..=15 => Profile::tiny(random),
+            16..=23 => Profile::returned(random),
             24..=28 => Profile::larger(random),
             29..=49 => Profile::small(random),
             50..=64 => Profile::tombstones(random),
             65..=73 => Profile::wide(random),
             74..=79 => Profile::fullest(random),
             80..=87 => Profile::malformed(random),
-            88..=93 => Profile::spoiled_end(random),
-            94..=97 => Profile::sleepy(random),
+            88..=94 => Profile::spoiled_end(random),
+            95..=97 => Profile::sleepy(random),
             _ => Profile::longest_zone(random),
         }
     }
@@ -74,6 +79,8 @@ impl Profile {
             idle: 3,
             full: 0,
             larger: 0,
+            ranges: 0,
+            returns: 0,
             spoiled: 8,
             edges: false,
         }
@@ -113,6 +120,27 @@ impl Profile {
         }
     }
 
+    /// Deletes of keys that are not live: never put, or deleted before.
+    fn returned(random: &mut Random) -> Profile {
+        let n = random.pick(&[1, 2, 3, 3, 4, 6, 64, 65, 100]);
+        let count = 2 + random.below((n as usize).min(20) + 3);
+        Profile {
+            n,
+            z: random.between(1, 5),
+            records: 10 + random.below(60),
+            keys: universe(count, random),
+            points: 3,
+            puts: 50,
+            deletes: 20,
+            scans: 25,
+            current: 65,
+            malformed: 1,
+            ranges: 15,
+            returns: 50,
+            ..Profile::tiny(random)
+        }
+    }
+
     /// Pools up to the largest, filled.
     fn wide(random: &mut Random) -> Profile {
         let n = random.pick(&[20, 63, 64, 65, 128, 500, 999, 1_000]);
@@ -148,6 +176,8 @@ impl Profile {
             current: 75,
             full: 60,
             larger: 8,
+            ranges: 5,
+            returns: 20,
             ..Profile::tiny(random)
         }
     }
@@ -168,6 +198,7 @@ impl Profile {
             current: 35,
             malformed: 35,
             larger: 50,
+            ranges: 20,
             ..Profile::tiny(random)
         }
     }

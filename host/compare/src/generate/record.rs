@@ -1,6 +1,7 @@
 //! One record for the state so far.
 
 use reference::random::Random;
+use reference::state::Kept;
 use reference::version::{MOST_POINTS_OF_ONE, MOST_SCANS_OF_ONE};
 use reference::{Point, Record, Scan, State};
 
@@ -14,13 +15,70 @@ const POINTS: [usize; 14] = [
 /// Numbers of scans at the edges of both versions.
 const SCANS: [usize; 12] = [0, 0, 0, 0, 1, 7, 8, 8, 9, 10, 63, 64];
 
+/// Numbers of keys deleted side by side: in version 1, and beyond it.
+const RANGES: [usize; 8] = [1, 2, 3, 5, 8, 20, 63, 64];
+const LARGER_RANGES: [usize; 6] = [64, 65, 66, 256, 1_024, 1_024];
+
 /// A record that keeps the rules, aimed at what the state makes interesting.
 pub fn make(profile: &Profile, state: &State, random: &mut Random) -> Record {
     let (points, scans) = counts(profile, random);
-    Record {
+    let points = match profile.ranges > 0 && random.percent(profile.ranges) {
+        true => range(profile, state, random),
+        false => self::points(points, profile, state, random),
+    };
+    let mut record = Record {
         snapshot: snapshot(profile, state, random),
-        points: self::points(points, profile, state, random),
+        points,
         scans: self::scans(scans, profile, state, random),
+    };
+    if profile.returns > 0 && random.percent(profile.returns) {
+        delete_besides(&mut record, returned(profile, state, random));
+    }
+    record
+}
+
+/// Deletes of keys side by side, from a key of the universe on; now and then another
+/// point among them.
+fn range(profile: &Profile, state: &State, random: &mut Random) -> Vec<Point> {
+    let count = match profile.larger > 0 {
+        true => random.pick(&LARGER_RANGES),
+        false => random.pick(&RANGES),
+    };
+    let last = count as u32 - 1;
+    let start = key(profile, state, random).min(u32::MAX - last);
+    let others = random.pick(&[0, 0, 5, 30]);
+    let point = |key| match random.percent(others) {
+        true => point(profile, key, random),
+        false => Point::delete(key),
+    };
+    (start..=start + last).map(point).collect()
+}
+
+/// A key to delete: one with a tombstone, most often right at its age or a position
+/// before it, a live one, or one that may not be kept.
+fn returned(profile: &Profile, state: &State, random: &mut Random) -> u32 {
+    let v = state.position() + 1;
+    let about = |kept: &Kept| (v..=v + 1).contains(&(kept.position + profile.z));
+    let wanted = random.below(6);
+    let fits = |kept: &Kept| match (wanted, kept.payload) {
+        (0 | 1, None) => about(kept),
+        (2 | 3, None) | (4, Some(_)) => true,
+        _ => false,
+    };
+    let kept = state.kept().iter().filter(|(_, kept)| fits(kept));
+    let found: Vec<u32> = kept.map(|(&key, _)| key).collect();
+    match found.is_empty() {
+        true => key(profile, state, random),
+        false => random.pick(&found),
+    }
+}
+
+/// Puts a delete of this key in the place of what the record has for it.
+fn delete_besides(record: &mut Record, key: u32) {
+    record.points.retain(|point| point.key != key);
+    if record.points.len() < MOST_POINTS_OF_ONE {
+        let place = record.points.partition_point(|point| point.key < key);
+        record.points.insert(place, Point::delete(key));
     }
 }
 

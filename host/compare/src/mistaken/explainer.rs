@@ -4,12 +4,12 @@
 use super::meld::{Entry, Pool};
 use super::reason::ReasonMistake;
 use super::record::{fields, Fields};
-use super::Mistake;
 
 /// A point of a record that was melded.
 struct Melded {
     position: u32,
     key: u32,
+    read: bool,
     writes: bool,
     committed: bool,
 }
@@ -54,11 +54,10 @@ pub(super) struct Explainer {
 impl Explainer {
     /// An explainer over a new pool with these limits.
     pub(super) fn new(mistake: Option<ReasonMistake>, (n, z): (u32, u32)) -> Explainer {
-        let looks =
-            (mistake == Some(ReasonMistake::LooksGoOn)).then_some(Mistake::RightAfterConflict);
+        let melding = mistake.and_then(ReasonMistake::in_meld);
         Explainer {
             mistake,
-            pool: Pool::new(n, z, looks),
+            pool: Pool::new(n, z, melding),
             points: Vec::new(),
         }
     }
@@ -69,16 +68,22 @@ impl Explainer {
 
     /// Melds a record.
     pub(super) fn meld(&mut self, part: &[u8]) {
-        let (answer, _, position) = self.pool.meld(part);
-        let record = fields(None, part, position - 1);
+        let record = fields(None, part, self.pool.p);
         let points = record.map_or(Vec::new(), |record| record.points);
-        self.points
-            .extend(points.iter().map(|&(kind, key, _)| Melded {
-                position,
-                key,
-                writes: kind != 1,
-                committed: answer == 0,
-            }));
+        let melded = |(kind, key, _): (u8, u32, u64)| Melded {
+            position: 0,
+            key,
+            read: kind == 1,
+            writes: self.pool.writes(kind, key),
+            committed: false,
+        };
+        let mut points: Vec<Melded> = points.into_iter().map(melded).collect();
+        let (answer, _, position) = self.pool.meld(part);
+        for point in &mut points {
+            point.position = position;
+            point.committed = answer == 0;
+        }
+        self.points.extend(points);
     }
 
     /// What is told of a record.
@@ -143,6 +148,9 @@ impl Explainer {
             Some(ReasonMistake::NewestInConflict) => newest(&found),
             Some(ReasonMistake::NewestOfAll) => newest(&all),
             Some(ReasonMistake::RefusedWriter) => points.rfind(|point| point.writes).map(position),
+            Some(ReasonMistake::NothingBlamed) => points
+                .rfind(|point| point.committed && !point.read)
+                .map(position),
             Some(ReasonMistake::ReadWriter) => points.rfind(|point| point.committed).map(position),
             _ => None,
         };
@@ -250,7 +258,8 @@ impl Explainer {
         let needs = |point: &&(u8, u32, u64)| match (point.0, self.mistake) {
             (_, Some(ReasonMistake::WrittenNotCounted)) => false,
             (1, mistake) => mistake == Some(ReasonMistake::ReadsCounted),
-            (3, mistake) => mistake != Some(ReasonMistake::DeletesNotCounted),
+            (3, Some(ReasonMistake::NothingCounted)) => true,
+            (3, _) => self.pool.writes(3, point.1),
             _ => true,
         };
         let staying = self.pool.entries.iter().filter(|entry| stays(entry));

@@ -50,9 +50,10 @@ impl Pool {
     /// The answer, the looks and the position of the next record.
     pub fn meld(&mut self, part: &[u8]) -> (u8, u32, u32) {
         let v = self.p + 1;
+        let idle = self.has(Mistake::NothingTakesNoPosition) && self.deletes_nothing(part);
         let (answer, looks) = self.decide(part);
         let stays = match answer {
-            0 => false,
+            0 => idle,
             4 => self.has(Mistake::MalformedTakesNoPosition),
             _ => self.has(Mistake::AbortedTakesNoPosition),
         };
@@ -60,6 +61,13 @@ impl Pool {
             self.p = v;
         }
         (answer, looks, v)
+    }
+
+    /// Has the record deletes, and nothing that it writes?
+    fn deletes_nothing(&self, part: &[u8]) -> bool {
+        let points = fields(self.mistake, part, self.p).map_or(Vec::new(), |record| record.points);
+        points.iter().any(|point| point.0 == 3)
+            && !points.iter().any(|point| self.writes(point.0, point.1))
     }
 
     /// The checks in their order.

@@ -37,6 +37,8 @@ mistakes! {
         NewestOfAll: "the newest write of all kept keys is told",
         RefusedWriter: "a refused record is taken for the writer",
         ReadWriter: "a committed record that reads the key is taken for the writer",
+        DeletesAlwaysWrite: "a delete of a key that is not live is a write, as it once was",
+        NothingBlamed: "a delete that wrote nothing is taken for the writer",
         LagFromV: "the lag is v - s",
         LagIsZ: "the lag is Z",
         LagBeyondZ: "the lag is p - s - Z",
@@ -44,7 +46,7 @@ mistakes! {
         LagWithAhead: "with 5 the lag is s - p",
         OldHasConflict: "a conflict is told with 2",
         WrittenNotCounted: "the keys written are not counted",
-        DeletesNotCounted: "the keys deleted are not counted",
+        NothingCounted: "the keys deleted are counted, live or not",
         ReadsCounted: "the keys read are counted",
         CountedTwice: "a key that is kept and written is counted twice",
         OldTombstonesCounted: "old tombstones are counted",
@@ -66,6 +68,15 @@ mistakes! {
 }
 
 impl ReasonMistake {
+    /// The mistake of the pool's meld that it is, if it is one.
+    pub(super) fn in_meld(self) -> Option<Mistake> {
+        match self {
+            ReasonMistake::LooksGoOn => Some(Mistake::RightAfterConflict),
+            ReasonMistake::DeletesAlwaysWrite => Some(Mistake::DeletesAlwaysWrite),
+            _ => None,
+        }
+    }
+
     /// The mistake of the program's walk that it is, if it is one.
     fn in_walk(self) -> Option<Mistake> {
         match self {

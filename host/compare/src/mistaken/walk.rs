@@ -47,9 +47,11 @@ impl Pool {
     /// Does the record name or scan anything from low to high? Its lists rise, some
     /// mistakes apart.
     fn touches(&self, record: &Fields, low: u32, high: u32) -> bool {
-        let seen = |kind: u8| match self.mistake {
+        let seen = |kind: u8, key: u32| match self.mistake {
             Some(Mistake::PutsDoNotConflict) => kind != 2,
             Some(Mistake::DeletesDoNotConflict) => kind != 3,
+            Some(Mistake::NothingNotNamed) => kind != 3 || self.writes(kind, key),
+            Some(Mistake::AbsentDeleteNotNamed) => kind != 3 || self.entry(key).is_some(),
             _ => true,
         };
         let scanned = |scan: &(u32, u32)| match self.mistake {
@@ -68,7 +70,7 @@ impl Pool {
         let scans = &scans[scans.partition_point(|scan| scan.1 < low)..];
         let mut points = points.iter().take_while(|point| point.1 <= high);
         let mut scans = scans.iter().take_while(|scan| scan.0 <= high);
-        points.any(|point| seen(point.0)) || scans.any(scanned)
+        points.any(|point| seen(point.0, point.1)) || scans.any(scanned)
     }
 
     /// A touched leaf above the snapshot is the conflict, some mistakes apart.

@@ -7,6 +7,7 @@ use reference::Answer;
 
 use super::meld::Pool;
 use super::record::fields;
+use super::Mistake;
 
 mistakes! {
     /// A mistake that one might make in writing or refreshing a record.
@@ -35,6 +36,7 @@ mistakes! {
         RefreshRefusesTwo: "a refresh answers 4 to version 2",
         RefreshShortOfBefore: "a refresh answers 8 to a record of more than 905 bytes",
         SnapshotBehindCounts: "a refresh writes the snapshot of version 2 two bytes too late",
+        RefreshOverlooksNothing: "a refresh does not look at a delete of a key that is not live",
     }
 }
 
@@ -48,6 +50,7 @@ impl WriteMistake {
                 | WriteMistake::RefreshRefusesTwo
                 | WriteMistake::RefreshShortOfBefore
                 | WriteMistake::SnapshotBehindCounts
+                | WriteMistake::RefreshOverlooksNothing
         )
     }
 }
@@ -165,6 +168,9 @@ pub fn refresh(
     let Some(record) = fields(None, bytes, pool.p) else {
         return Answer::Malformed;
     };
+    if mistake == Some(WriteMistake::RefreshOverlooksNothing) {
+        pool.mistake = Some(Mistake::NothingNotNamed);
+    }
     let two = bytes[2] == 2;
     if two && mistake == Some(WriteMistake::RefreshRefusesTwo) {
         return Answer::Malformed;
