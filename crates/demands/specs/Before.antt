@@ -74,22 +74,22 @@ pub data MeldingBefore (read : List ℕ → Option Rec) : List ℕ → List (Lis
   one-more : {m bytes m′ m″ : List ℕ} {parts : List (List ℕ)} {a : Melded} {xs : List Melded}
       → MeldsBefore read m bytes m′ a → DeletesLive read m bytes → MeldingBefore read m′ parts xs m″ → MeldingBefore read m (bytes ∷ parts) (a ∷ xs) m″
 
--- R54: a card of before version 2 over a whole log: bytes lent, made a pool by creation; the log led to "end" and handed out these parts; for each stands
+-- R54, R55: a card of before over a whole log, which ended as is said: bytes lent, made a pool by creation; for each of the parts that were handed out stands
 -- the answer and the looks that it got, and m is the pool afterwards
-pub record StoredLog (N Z : ℕ) (log : List ℕ) (parts : List (List ℕ)) (xs : List Melded) (m : List ℕ) : Type 0 where
+pub record StoredBy (read : List ℕ → Option Rec) (Ended : Type 0) (N Z : ℕ) (parts : List (List ℕ)) (xs : List Melded) (m : List ℕ) : Type 0 where
   pub lent : List ℕ
   pub new : List ℕ
   pub created : Created lent N Z committed new
-  pub ended : EndedBefore log 0 parts
-  pub melded : MeldingBefore parseBefore new parts xs m
+  pub ended : Ended
+  pub melded : MeldingBefore read new parts xs m
 
--- R55: the same of a card that knew version 2
-pub record StoredLarge (N Z : ℕ) (log : List ℕ) (parts : List (List ℕ)) (xs : List Melded) (m : List ℕ) : Type 0 where
-  pub lent : List ℕ
-  pub new : List ℕ
-  pub created : Created lent N Z committed new
-  pub ended : Walks log 0 parts End
-  pub melded : MeldingBefore parse new parts xs m
+-- R54: before version 2 the log led to "end" by the rule of then
+abbrev pub StoredLog : ℕ → ℕ → List ℕ → List (List ℕ) → List Melded → List ℕ → Type 0
+StoredLog N Z log parts xs m = StoredBy parseBefore (EndedBefore log 0 parts) N Z parts xs m
+
+-- R55: since version 2 it did by the rule of today
+abbrev pub StoredLarge : ℕ → ℕ → List ℕ → List (List ℕ) → List Melded → List ℕ → Type 0
+StoredLarge N Z log parts xs m = StoredBy parse (Walks log 0 parts End) N Z parts xs m
 
 -- R54: none of these parts has 2 as its version byte
 abbrev pub NoVersion2 : List (List ℕ) → Type 0

@@ -89,18 +89,19 @@ tally-store f (Delete k ∷ ps) low e es r h = tally-store f ps (k + 1) e es (r 
 abbrev HoldsLive : State → List Entry → Type 0
 HoldsLive S es = (k : ℕ) → liveAt (find k (S .kept)) ≡ true → oneIfAbsent (foundIn k es) ≡ 0
 
+-- what is kept is not absent
+not-absent : (w : ℕ) (o : Option ℕ) → oneIfAbsent (foundAt w o) ≡ 0
+not-absent w none = refl
+not-absent w (some x) = refl
+
 -- the state's own do
 holds-kept : (S : State) → HoldsLive S (S .kept)
 unfolding foundIn
 holds-kept S k = go (find k (S .kept))
   where
-    lives : (w : ℕ) (o : Option ℕ) → isLive o ≡ true → oneIfAbsent (foundAt w o) ≡ 0
-    lives w none h = refl
-    lives w (some x) h = refl
-
     go : (o : Option Entry) → liveAt o ≡ true → oneIfAbsent (foundOf o) ≡ 0
     go none h = let z : _≡_ {A = ℕ} 0 1 = cc in absurd (omega arith)
-    go (some e) h = lives (e .position) (e .payload) h
+    go (some e) h = not-absent (e .position) (e .payload)
 
 -- and still do when something is stored
 holds-store : (S : State) (e : Entry) (es : List Entry) → HoldsLive S es → HoldsLive S (store e es)
@@ -108,14 +109,10 @@ unfolding foundIn
 holds-store S e es h k l = ⊎-elim
     (λ t. own (eqb→eq (e .key) k t)) (λ t. ap oneIfAbsent (found-store k e es (λ d. T-not (eqb (e .key) k) t (yes-eq d))) ∙ h k l) (test (eqb (e .key) k))
   where
-    lives : (w : ℕ) (o : Option ℕ) → oneIfAbsent (foundAt w o) ≡ 0
-    lives w none = refl
-    lives w (some x) = refl
-
     own : e .key ≡ k → oneIfAbsent (foundIn k (store e es)) ≡ 0
     own d =
         let f : find k (store e es) ≡ some e = find-store k e es ∙ ap (λ (b : Bool). if b then some e else find k es) (eq-eqb (e .key) k d) in
-        ap (λ (o : Option Entry). oneIfAbsent (foundOf o)) f ∙ lives (e .position) (e .payload)
+        ap (λ (o : Option Entry). oneIfAbsent (foundOf o)) f ∙ not-absent (e .position) (e .payload)
 
 -- ALL OF THEM
 

@@ -4,7 +4,7 @@
 mod common;
 
 use common::{explain, fresh, lookup, meld, status};
-use reference::table::{record, scanning};
+use reference::table::{record, records_of_nothing, scanning};
 use reference::{Limits, Point, Record};
 
 /// A card's pool, for N = 3 and Z = 4 as in R55.
@@ -249,16 +249,7 @@ const ROWS: [(&str, u8, u32); 8] = [
 
 #[test]
 fn the_eight_rows() {
-    let records = [
-        record(0, &[Point::put(10, 100), Point::put(20, 200)]),
-        record(1, &[Point::delete(15)]),
-        scanning(1, &[], &[(11, 19)]),
-        record(3, &[Point::delete(20), Point::put(30, 300)]),
-        record(3, &[Point::delete(20)]),
-        record(5, &[Point::delete(25)]),
-        record(6, &[Point::delete(20)]),
-        record(7, &[Point::put(40, 400)]),
-    ];
+    let records = records_of_nothing();
     // Kept keys and tombstones after each.
     let counts = [
         (2, 0),
