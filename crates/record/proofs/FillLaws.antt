@@ -33,7 +33,7 @@ turn-list {A} x rest a h w f l g i v e k =
     ∙ rw (add-one i, k)
 
 -- a run that was taken is not refused
-no-took : {A : Type 0} (x : Parsed A) → x ≡ bad → isTook x ≡ true → ⊥
+pub no-took : {A : Type 0} (x : Parsed A) → x ≡ bad → isTook x ≡ true → ⊥
 no-took x b w = let z : true ≡ false = sym w ∙ ap isTook b in let y : _≡_ {A = ℕ} 0 1 = cc in omega arith
 
 -- POINTS

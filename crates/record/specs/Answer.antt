@@ -49,3 +49,7 @@ tornLog = record { number = 10 }
 -- R3: 11
 abbrev pub impossibleLength : Answer
 impossibleLength = record { number = 11 }
+
+-- R3: 12
+abbrev pub cannotJoin : Answer
+cannotJoin = record { number = 12 }

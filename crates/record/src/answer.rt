@@ -27,4 +27,6 @@ impl Answer {
     pub const TORN_LOG: Answer = Answer { number: 10 };
 
     pub const IMPOSSIBLE_LENGTH: Answer = Answer { number: 11 };
+
+    pub const CANNOT_JOIN: Answer = Answer { number: 12 };
 }

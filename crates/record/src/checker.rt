@@ -181,7 +181,7 @@ fn counted(version: u8, points: usize, scans: usize) -> Head
 }
 
 // What stands before the points. A count has one byte in version 1, two in version 2.
-fn head_of(bytes: &[u8]) -> Head
+pub fn head_of(bytes: &[u8]) -> Head
     ensures { λ r. ⌜ r ≡ headOf (now (bytes .entry)) ⌝ }
 {
     if bytes.len() < 9 {

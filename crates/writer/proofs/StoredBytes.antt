@@ -16,7 +16,7 @@ use Rattle.record.specs.Reader.{lowOf, highOf}
 use Rattle.writer.specs.Stored.{headBytes, storedPoint, storedPoints, storedScans}
 
 -- a point
-point-bytes : (p : Point) → storedPoint (kindOf p) (keyOf p) (payloadOf p) ≡ pointBytes p
+pub point-bytes : (p : Point) → storedPoint (kindOf p) (keyOf p) (payloadOf p) ≡ pointBytes p
 unfolding storedPoint
 point-bytes (Read k) = ap (λ (l : List ℕ). 1 ∷ l) (append-nil (bigEndian 4 k))
 point-bytes (Put k x) = refl

@@ -37,7 +37,7 @@ pub fn put_head(output: &mut [u8], size: u32, version: u8, snapshot: u32, points
 }
 
 // Stores one point, and gives the place past it.
-fn put_point(output: &mut [u8], at: usize, kind: u8, key: u32, payload: u64) -> usize
+pub fn put_point(output: &mut [u8], at: usize, kind: u8, key: u32, payload: u64) -> usize
     requires { ⌜ at + length (storedPoint kind key payload) ≤ length (now output) ⌝ }
     ensures { λ r. ⌜ r ≡ at + length (storedPoint kind key payload) ⌝ }
     ensures { λ _. ⌜ now (output .exit) ≡ sets (now (output .entry)) at (storedPoint kind key payload) ⌝ }
@@ -75,7 +75,7 @@ pub fn put_points(
 }
 
 // Stores one scan.
-fn put_scan(output: &mut [u8], at: usize, low: u32, high: u32)
+pub fn put_scan(output: &mut [u8], at: usize, low: u32, high: u32)
     requires { ⌜ at + 8 ≤ length (now output) ⌝ }
     ensures { λ _. ⌜ now (output .exit) ≡ sets (now (output .entry)) at (storedScan low high) ⌝ }
 {

@@ -1,0 +1,5 @@
+pub mod Joined
+pub mod Joiner
+pub mod ScanSteps
+pub mod PointSteps
+pub mod Passes
