@@ -18,6 +18,9 @@ use Rattle.record.specs.Reader.{Lists, lists, lowOf, highOf, ReadOutcome, readO
 use Rattle.writer.specs.declared.Written.{Written}
 use Rattle.writer.specs.Writer.{WriteOutcome, writeOutcome, WritesAs}
 use Rattle.pairs.specs.Pairs.{PairsWritten, OneWritten}
+use Rattle.joiner.specs.declared.Joined.{Joined}
+use Rattle.joiner.specs.Joiner.{JoinsAs}
+use Rattle.joiner.proofs.Only.{only-join}
 use Rattle.log.specs.declared.found.Cut.{Cut}
 use Rattle.log.specs.Log.{impossible, CutIs, HandedOut, SameSlice}
 use Rattle.log.proofs.Only.{only-cut, only-part}
@@ -95,6 +98,10 @@ write-pairs-one snapshot ks es xs cs before = write-one snapshot (lists ks es xs
 pub write-single-one : (snapshot : ℕ) (ks es xs : List ℕ) (c : Scan) (before : List ℕ)
     → OneAnswer (λ (x : Written × List ℕ). OneWritten snapshot ks es xs c before (x .0) (x .1))
 write-single-one snapshot ks es xs c before = write-one snapshot (lists ks es xs (c .low ∷ []) (c .high ∷ [])) before
+
+-- what is given back and the whole output
+pub join-one : (a b before : List ℕ) → OneAnswer (λ (x : Joined × List ℕ). JoinsAs a b before (x .0) (x .1))
+join-one a b before x y p q = let e = only-join a b before (x .0) (y .0) (x .1) (y .1) p q in λ i. (e .0 i, e .1 i)
 
 -- the log lent, the same slice, and the place
 pub new-one : (log : RefT (List ℕ)) → OneAnswer (λ (r : LogReader). Opened log r)

@@ -26,3 +26,7 @@ pub mod Torn
 pub mod Stored
 pub mod Reasons
 pub mod Writers
+pub mod JoinsUnder
+pub mod JoinsRecord
+pub mod JoinsState
+pub mod Joins

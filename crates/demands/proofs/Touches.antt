@@ -25,6 +25,9 @@ use Rattle.record.proofs.Cases.{by-case, and-split}
 use Rattle.writer.specs.declared.Written.{Written}
 use Rattle.writer.specs.Writer.{recordOf, writeOf}
 use Rattle.writer.specs.Writer as Writer
+use Rattle.joiner.specs.declared.Joined.{Joined}
+use Rattle.joiner.specs.Joined.{joinedIf}
+use Rattle.joiner.specs.Joiner.{JoinOutcome, joinOutcome, joinRefused, joinedTo, joinOf, JoinsAs}
 use Rattle.log.specs.Log.{pastAt}
 use Rattle.rules.specs.State.{State}
 use Rattle.rules.specs.Verdict.{Verdict, committed, conflict, tooOld, noRoom, malformed, ahead, positionsUsedUp, verdictAnswer, verdict, pointsOf, next, left}
@@ -49,7 +52,7 @@ use Rattle.pages.proofs.Fronts.{Such, such-lent, held, length-in, new-length, r
 use Rattle.pages.proofs.Decided.{happened-is, taken-is, unfit-said, verdict-said, verdict-taken, verdict-carry}
 use Rattle.pages.proofs.CarryBytes.{in-bytes, record-bytes}
 use Rattle.pages.proofs.Refusals.{said-else}
-use Rattle.demands.specs.Touches.{Within, positionFrom, positionTo, CreateTouches, MeldTouches, FeedTouches, RefreshTouches, WriteTouches, ReadTouches}
+use Rattle.demands.specs.Touches.{Within, positionFrom, positionTo, CreateTouches, MeldTouches, FeedTouches, RefreshTouches, WriteTouches, JoinTouches, ReadTouches}
 use Rattle.demands.proofs.Following.{parsed-valid}
 use Rattle.demands.proofs.Position.{position-alone}
 
@@ -174,6 +177,34 @@ write-touches snapshot l before w after h = go (recordOf snapshot l) h
 
     go : (o : Option Rec) → Writer.writeOutcome w after ≡ writeOf o before → WriteTouches before w after
     go none e = refusal Names.malformed (answer _ e)
+    go (some r) e = by-room r (leb (length (bytesOf r)) (length before)) refl e
+
+-- JOIN
+
+pub join-touches : (a b before : List ℕ) (j : Joined) (after : List ℕ) → JoinsAs a b before j after → JoinTouches before j after
+unfolding joinOf
+join-touches a b before j after h = go (joinedIf (parse a) (parse b)) h
+  where
+    answer : (x : JoinOutcome) → joinOutcome j after ≡ x → (j ≡ x .joined) × (after ≡ x .left)
+    answer x e = (ap (λ (o : JoinOutcome). o .joined) e, ap (λ (o : JoinOutcome). o .left) e)
+
+    refusal : after ≡ before → JoinTouches before j after
+    refusal e = record { refusal = λ _. e; commit = within-nothing 0 (j .size) before after e }
+
+    by-room : (r : Rec) (b : Bool) → leb (length (bytesOf r)) (length before) ≡ b
+        → joinOutcome j after ≡ cond b (joinOutcome (joinedTo (bytesOf r)) (front (bytesOf r) before)) (joinOutcome (joinRefused Names.outputShort) before)
+        → JoinTouches before j after
+    by-room r false t e = refusal (answer _ e .1)
+    by-room r true t e =
+        let (x, y) = answer _ e in
+        record {
+          refusal = λ n. absurd (n (ap (λ (o : Joined). o .answer) x));
+          commit = subst (λ (s : List ℕ). Within 0 (j .size) before s) (sym y)
+              (subst (λ (n : ℕ). Within 0 n before (front (bytesOf r) before)) (sym (ap (λ (o : Joined). o .size) x)) (within-front (bytesOf r) before (leb-true (length (bytesOf r)) (length before) t)));
+        }
+
+    go : (o : Option Rec) → joinOutcome j after ≡ joinOf o before → JoinTouches before j after
+    go none e = refusal (answer _ e .1)
     go (some r) e = by-room r (leb (length (bytesOf r)) (length before)) refl e
 
 -- READ

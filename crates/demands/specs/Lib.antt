@@ -15,3 +15,4 @@ pub mod ListsBack
 pub mod Feeding
 pub mod SomeRun
 pub mod Reasons
+pub mod Joins

@@ -11,6 +11,7 @@ use Rattle.record.specs.declared.reader.Reading.{Reading}
 use Rattle.record.specs.Answer.{committed, positionsUsedUp, unfitPool, outputShort, badLimits}
 use Rattle.record.specs.Reader.{Lists}
 use Rattle.writer.specs.declared.Written.{Written}
+use Rattle.joiner.specs.declared.Joined.{Joined}
 use Rattle.pages.specs.declared.told.Happened.the-variants.{Decided, Refused}
 use Rattle.pages.specs.declared.told.Fed.{Fed}
 
@@ -56,6 +57,11 @@ pub record RefreshTouches (original before : List ℕ) (a : Answer) (after : Lis
 pub record WriteTouches (before : List ℕ) (w : Written) (after : List ℕ) : Type 0 where
   pub refusal : (w .answer ≡ committed → ⊥) → after ≡ before
   pub commit : Within 0 (w .size) before after
+
+-- R42: `join`: nothing unless 0; then the front of the output, as long as the joined record
+pub record JoinTouches (before : List ℕ) (j : Joined) (after : List ℕ) : Type 0 where
+  pub refusal : (j .answer ≡ committed → ⊥) → after ≡ before
+  pub commit : Within 0 (j .size) before after
 
 -- R42: `read`: nothing unless 0; then the fronts of the lists, as many elements as there are points and scans
 pub record ReadTouches (before : Lists) (r : Reading) (after : Lists) : Type 0 where

@@ -28,3 +28,5 @@ pub mod Bits
 pub mod Finding
 pub mod TreeCommit
 pub mod Fork
+pub mod RoomKeys
+pub mod Told
