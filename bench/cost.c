@@ -14,7 +14,10 @@
    live), absent (deletes of the keys that new puts), gone (deletes of the first keys, which tombstones has deleted). The others have the position as
    snapshot. With why- before it the record of such a call is explained and not melded. Three calls feed the record of kept: fed (all of it in the part, and
    nothing carried), begun (its first byte carried, the others in the part), more (all of it but its last byte in the part, so that none is decided). Three
-   cut a log that is the record of kept: cut (as it is), torn (without its last byte), sick (with a length of 65,535). With skip the call is left out; with
+   cut a log that is the record of kept: cut (as it is), torn (without its last byte), sick (with a length of 65,535). Two join two records of POINTS points
+   each, 512 at most, and of 4 scans each for 1 point, 8 for up to 64 and 32 for more: join (puts of kept keys and scans between neighbouring kept keys, all of
+   them different, so that the joined record has the points and scans of both), same (reads of kept keys and puts of the same, and the same scans, so that it
+   has those of one). With skip the call is left out; with
    stack the bytes of stack it used are printed; with compare both are called, and their answers, looks, numbers and bytes have to be the same. The status
    is the call's answer, or one of those below. */
 #include <stdio.h>
@@ -195,8 +198,37 @@ static struct {
     uint32_t key, position, lag, keys;
 } why;
 
+/* The second record of a call that joins, the output and what is told. */
+static struct {
+    uint8_t second[EMUPARASOL_MOST_RECORD], output[EMUPARASOL_MOST_RECORD];
+    uint64_t second_size, size;
+} joining;
+
+/* The records of such a call: the first, of which the size is answered, and the second. */
+static uint64_t prepare_two(bool same, uint32_t points, uint8_t *record) {
+    static uint32_t some[EMUPARASOL_MOST_POINTS];
+    struct scans pick[2];
+    uint32_t p = word_at(pool + 12), scans = points > FEW_POINTS ? 32 : points > 1 ? 8 : 4;
+    uint64_t sizes[2];
+    if (2 * points > EMUPARASOL_MOST_POINTS || 2 * points > keys)
+        exit(MISUSED);
+    for (uint32_t i = 0; i < 2 * scans; i++) {
+        pick[i % 2].lows[i / 2] = beside.many.lows[i];
+        pick[i % 2].highs[i / 2] = beside.many.highs[i];
+    }
+    for (uint32_t which = 0; which < 2; which++) {
+        const struct scans *own = &pick[same ? 0 : which];
+        for (uint32_t i = 0; i < points; i++)
+            some[i] = key_of(2 * i + (same ? 0 : which));
+        sizes[which] = record_of(which == 0 ? record : joining.second, p, some, points, same && which == 0 ? EMUPARASOL_KIND_READ : EMUPARASOL_KIND_PUT,
+                                 own->lows, own->highs, scans);
+    }
+    joining.second_size = sizes[1];
+    return sizes[0];
+}
+
 /* What feed is lent besides the pool, and what it tells. */
-enum call { LOOK, STATUS, MELD, EXPLAIN, CUT, TORN, SICK, FED, BEGUN, MORE };
+enum call { LOOK, STATUS, MELD, EXPLAIN, CUT, TORN, SICK, JOIN, FED, BEGUN, MORE };
 static struct {
     uint8_t carry[EMUPARASOL_CARRY_BYTES], happened;
     uint64_t carried, part, taken;
@@ -209,13 +241,19 @@ static void lend(enum call call, const uint8_t *record, uint64_t size) {
     fed.part = call == FED ? size : size - 1;
 }
 
-/* Makes the call; instead of looks a lookup gives the position found, status the tombstones, and a cut the place then. */
+/* Makes the call; instead of looks a lookup gives the position found, status the tombstones, a cut the place then, and a join the size. */
 static uint8_t make_call(bool plain, enum call call, const uint8_t *record, uint64_t size, uint32_t *looks) {
     uint64_t payload, next;
     uint32_t limit, zone, position, kept;
     if (call == CUT || call == TORN || call == SICK) {
         uint8_t answer = (plain ? plain_cut : emuparasol_cut)(record, call == TORN ? size - 1 : size, 0, &next);
         *looks = (uint32_t)next;
+        return answer;
+    }
+    if (call == JOIN) {
+        uint8_t answer = (plain ? plain_join : emuparasol_join)(record, size, joining.second, joining.second_size, joining.output, sizeof joining.output,
+                                                                &joining.size);
+        *looks = (uint32_t)joining.size;
         return answer;
     }
     if (call == LOOK)
@@ -267,12 +305,16 @@ int main(int argc, char **argv) {
                       : !strcmp(call, "cut")    ? CUT
                       : !strcmp(call, "torn")   ? TORN
                       : !strcmp(call, "sick")   ? SICK
+                      : !strcmp(call, "join")   ? JOIN
+                      : !strcmp(call, "same")   ? JOIN
                       : !strcmp(call, "fed")    ? FED
                       : !strcmp(call, "begun")  ? BEGUN
                       : !strcmp(call, "more")   ? MORE
                       : melded != NULL          ? EXPLAIN
                                                 : MELD;
-    uint64_t size = which == LOOK || which == STATUS ? 0 : prepare(which == EXPLAIN ? melded : call, third, record);
+    uint64_t size = which == LOOK || which == STATUS ? 0
+                    : which == JOIN                  ? prepare_two(!strcmp(call, "same"), third, record)
+                                                     : prepare(which == EXPLAIN ? melded : call, third, record);
     uint32_t looks = 0;
     uint8_t answer = EMUPARASOL_COMMITTED;
     if (which == SICK)
@@ -291,16 +333,24 @@ int main(int argc, char **argv) {
         memcpy(once, pool, length);
         answer = make_call(false, which, record, size, &looks);
         uint8_t *after = pool, told[sizeof fed], reason[sizeof why];
+        static uint8_t joined[sizeof joining];
         pool = once;
         memcpy(told, &fed, sizeof fed);
         memcpy(reason, &why, sizeof why);
         memset(&why, 0, sizeof why);
+        memcpy(joined, &joining, sizeof joining);
+        memset(joining.output, 0, sizeof joining.output);
         if (which >= FED)
             lend(which, record, size);
         if (make_call(true, which, record, size, &other_looks) != answer || other_looks != looks || memcmp(after, once, length) != 0 ||
-            memcmp(told, &fed, sizeof fed) != 0 || memcmp(reason, &why, sizeof why) != 0)
+            memcmp(told, &fed, sizeof fed) != 0 || memcmp(reason, &why, sizeof why) != 0 || memcmp(joined, &joining, sizeof joining) != 0)
             return DIFFERENT;
-        printf("answer %u, %s %u, kept %u\n", answer, which == STATUS ? "tombstones" : which >= CUT && which <= SICK ? "place" : "looks", looks, word_at(pool + 16));
+        printf("answer %u, %s %u, kept %u\n", answer,
+               which == STATUS                 ? "tombstones"
+               : which >= CUT && which <= SICK ? "place"
+               : which == JOIN                 ? "size"
+                                               : "looks",
+               looks, word_at(pool + 16));
     }
     return answer;
 }

@@ -260,6 +260,44 @@ uint8_t plain_read(const uint8_t *record, uint64_t length, uint8_t *kinds, uint6
     return EMUPARASOL_COMMITTED;
 }
 
+/* Stores what stands before the points of a record of so many bytes, points and scans, and gives the place behind it. */
+static uint8_t *head_to(uint8_t *at, uint64_t length, uint32_t snapshot, uint64_t points, uint64_t scans) {
+    bool wide = second(points, scans);
+    *at++ = (uint8_t)((length - 2) >> 8);
+    *at++ = (uint8_t)(length - 2);
+    *at++ = wide ? 2 : 1;
+    set(at, snapshot);
+    at += 4;
+    if (wide)
+        *at++ = (uint8_t)(points >> 8);
+    *at++ = (uint8_t)points;
+    if (wide)
+        *at++ = (uint8_t)(scans >> 8);
+    *at++ = (uint8_t)scans;
+    return at;
+}
+
+/* Stores a point, and gives the place behind it. */
+static inline uint8_t *point_to(uint8_t *at, uint8_t kind, uint32_t key, uint64_t payload) {
+    *at++ = kind;
+    set(at, key);
+    at += 4;
+    if (kind == EMUPARASOL_KIND_PUT) {
+        set(at, (uint32_t)(payload >> 32));
+        set(at + 4, (uint32_t)payload);
+        at += 8;
+    }
+    return at;
+}
+
+/* Stores so many scans. */
+static void scans_to(uint8_t *at, const uint32_t *lows, const uint32_t *highs, uint64_t scans) {
+    for (uint64_t i = 0; i < scans; i++, at += 8) {
+        set(at, lows[i]);
+        set(at + 4, highs[i]);
+    }
+}
+
 uint8_t plain_write(uint32_t snapshot, const uint8_t *kinds, uint64_t kinds_length, const uint32_t *keys, uint64_t keys_length,
                     const uint64_t *payloads, uint64_t payloads_length, const uint32_t *lows, uint64_t lows_length, const uint32_t *highs,
                     uint64_t highs_length, uint8_t *output, uint64_t output_length, uint64_t *size) {
@@ -267,8 +305,7 @@ uint8_t plain_write(uint32_t snapshot, const uint8_t *kinds, uint64_t kinds_leng
     if (kinds_length > EMUPARASOL_MOST_POINTS || keys_length != kinds_length || payloads_length != kinds_length || lows_length > EMUPARASOL_MOST_SCANS ||
         highs_length != lows_length)
         return EMUPARASOL_MALFORMED;
-    bool wide = second(kinds_length, lows_length);
-    uint64_t length = (wide ? HEAD_OF_TWO : HEAD_OF_ONE) + 8 * lows_length;
+    uint64_t length = (second(kinds_length, lows_length) ? HEAD_OF_TWO : HEAD_OF_ONE) + 8 * lows_length;
     for (uint64_t i = 0; i < kinds_length; i++) {
         if (kinds[i] - 1u > 2 || (kinds[i] != 2 && payloads[i] != 0) || (i > 0 && keys[i] <= keys[i - 1]))
             return EMUPARASOL_MALFORMED;
@@ -279,32 +316,83 @@ uint8_t plain_write(uint32_t snapshot, const uint8_t *kinds, uint64_t kinds_leng
             return EMUPARASOL_MALFORMED;
     if (output_length < length)
         return EMUPARASOL_OUTPUT_SHORT;
-    uint8_t *at = output;
-    *at++ = (uint8_t)((length - 2) >> 8);
-    *at++ = (uint8_t)(length - 2);
-    *at++ = wide ? 2 : 1;
-    set(at, snapshot);
-    at += 4;
-    if (wide)
-        *at++ = (uint8_t)(kinds_length >> 8);
-    *at++ = (uint8_t)kinds_length;
-    if (wide)
-        *at++ = (uint8_t)(lows_length >> 8);
-    *at++ = (uint8_t)lows_length;
-    for (uint64_t i = 0; i < kinds_length; i++) {
-        *at++ = kinds[i];
-        set(at, keys[i]);
-        at += 4;
-        if (kinds[i] == 2) {
-            set(at, (uint32_t)(payloads[i] >> 32));
-            set(at + 4, (uint32_t)payloads[i]);
-            at += 8;
+    uint8_t *at = head_to(output, length, snapshot, kinds_length, lows_length);
+    for (uint64_t i = 0; i < kinds_length; i++)
+        at = point_to(at, kinds[i], keys[i], payloads[i]);
+    scans_to(at, lows, highs, lows_length);
+    *size = length;
+    return EMUPARASOL_COMMITTED;
+}
+
+/* Whether b names or scans a key that a puts or deletes. */
+static bool meets(const struct record *a, const struct record *b) {
+    int point = 0, scan = 0;
+    for (int i = 0; i < a->points; i++) {
+        if (a->kinds[i] == EMUPARASOL_KIND_READ)
+            continue;
+        while (point < b->points && b->keys[point] < a->keys[i])
+            point++;
+        while (scan < b->scans && b->highs[scan] < a->keys[i])
+            scan++;
+        if ((point < b->points && b->keys[point] == a->keys[i]) || (scan < b->scans && b->lows[scan] <= a->keys[i]))
+            return true;
+    }
+    return false;
+}
+
+/* The next point of two records by key, with cursors into both, which move past that key: the record that has it, and *at, its place there. Where both
+   name the key it is b's if b writes it. */
+static inline const struct record *next_point(const struct record *a, int *i, const struct record *b, int *j, int *at) {
+    bool in_a = *i < a->points && (*j == b->points || a->keys[*i] <= b->keys[*j]);
+    bool in_b = *j < b->points && (*i == a->points || b->keys[*j] <= a->keys[*i]);
+    const struct record *from = in_a && !(in_b && b->kinds[*j] != EMUPARASOL_KIND_READ) ? a : b;
+    *at = from == a ? *i : *j;
+    *i += in_a;
+    *j += in_b;
+    return from;
+}
+
+/* The scans of both, by their lows; one that shares a key with the last is added to it. Gives how many there are. */
+static int joined_scans(const struct record *a, const struct record *b, uint32_t *lows, uint32_t *highs) {
+    int i = 0, j = 0, count = 0;
+    while (i < a->scans || j < b->scans) {
+        bool of_a = j == b->scans || (i < a->scans && a->lows[i] <= b->lows[j]);
+        uint32_t low = of_a ? a->lows[i] : b->lows[j], high = of_a ? a->highs[i] : b->highs[j];
+        i += of_a;
+        j += !of_a;
+        if (count > 0 && low <= highs[count - 1]) {
+            highs[count - 1] = larger(highs[count - 1], high);
+        } else {
+            lows[count] = low;
+            highs[count++] = high;
         }
     }
-    for (uint64_t i = 0; i < lows_length; i++, at += 8) {
-        set(at, lows[i]);
-        set(at + 4, highs[i]);
+    return count;
+}
+
+uint8_t plain_join(const uint8_t *a, uint64_t a_length, const uint8_t *b, uint64_t b_length, uint8_t *output, uint64_t output_length, uint64_t *size) {
+    struct record x, y;
+    uint32_t lows[2 * EMUPARASOL_MOST_SCANS], highs[2 * EMUPARASOL_MOST_SCANS];
+    int at;
+    *size = 0;
+    if (!parse(a, a_length, &x) || !parse(b, b_length, &y) || x.snapshot != y.snapshot || meets(&x, &y))
+        return EMUPARASOL_CANNOT_JOIN;
+    uint64_t scans = (uint64_t)joined_scans(&x, &y, lows, highs), points = 0, length = 8 * scans;
+    for (int i = 0, j = 0; i < x.points || j < y.points; points++) {
+        const struct record *from = next_point(&x, &i, &y, &j, &at);
+        length += from->kinds[at] == EMUPARASOL_KIND_PUT ? 13 : 5;
     }
+    if (points > EMUPARASOL_MOST_POINTS || scans > EMUPARASOL_MOST_SCANS)
+        return EMUPARASOL_CANNOT_JOIN;
+    length += second(points, scans) ? HEAD_OF_TWO : HEAD_OF_ONE;
+    if (output_length < length)
+        return EMUPARASOL_OUTPUT_SHORT;
+    uint8_t *to = head_to(output, length, x.snapshot, points, scans);
+    for (int i = 0, j = 0; i < x.points || j < y.points;) {
+        const struct record *from = next_point(&x, &i, &y, &j, &at);
+        to = point_to(to, from->kinds[at], from->keys[at], from->payloads[at]);
+    }
+    scans_to(to, lows, highs, scans);
     *size = length;
     return EMUPARASOL_COMMITTED;
 }

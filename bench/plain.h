@@ -24,6 +24,7 @@ uint8_t plain_read(const uint8_t *record, uint64_t length, uint8_t *kinds, uint6
 uint8_t plain_write(uint32_t snapshot, const uint8_t *kinds, uint64_t kinds_length, const uint32_t *keys, uint64_t keys_length,
                     const uint64_t *payloads, uint64_t payloads_length, const uint32_t *lows, uint64_t lows_length, const uint32_t *highs,
                     uint64_t highs_length, uint8_t *output, uint64_t output_length, uint64_t *size);
+uint8_t plain_join(const uint8_t *a, uint64_t a_length, const uint8_t *b, uint64_t b_length, uint8_t *output, uint64_t output_length, uint64_t *size);
 uint8_t plain_cut(const uint8_t *log, uint64_t log_length, uint64_t place, uint64_t *next);
 
 #endif

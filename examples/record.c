@@ -1,5 +1,5 @@
-/* A host tool that needs no pool: it writes two records of docs/RULES.md's log (R44, rows 4 and 3) back to back, checks and reads each, and cuts the
-   log that they make: whole, torn, and with a length that no record has. It links librecord_abi.a alone. */
+/* A host tool that needs no pool: it writes two records of docs/RULES.md's log (R44, rows 4 and 3) back to back, checks and reads each, cuts the log that
+   they make: whole, torn, and with a length that no record has; and joins two records into one. It links librecord_abi.a alone. */
 #include <stdio.h>
 
 #include "emuparasol.h"
@@ -51,10 +51,26 @@ static void walk(uint64_t bytes) {
         printf("end at %lu\n", (unsigned long)place);
 }
 
+/* Two records as one, of which the second goes on where the first ends. */
+static void join(const uint8_t *a, uint64_t a_size, const uint8_t *b, uint64_t b_size) {
+    static uint8_t joined[64];
+    uint64_t size;
+    uint8_t answer = emuparasol_join(a, a_size, b, b_size, joined, sizeof joined, &size);
+    printf("join: answer %u, %lu bytes\n", (unsigned)answer, (unsigned long)size);
+    if (answer == EMUPARASOL_COMMITTED)
+        show(joined, size);
+    else
+        printf("%s: as two they are what they were\n", emuparasol_answer_name(answer));
+}
+
 int main(void) {
     append(1, EMUPARASOL_KIND_READ, 30, 0, 0, 0, 0);
+    uint64_t first = length;
     append(1, EMUPARASOL_KIND_PUT, 30, 300, 11, 19, 1);
     walk(length);
+    /* The second puts what the first has read. The other way round the first would put what the second reads. */
+    join(file, first, file + first, length - first);
+    join(file + first, length - first, file, first);
     printf("cut off a byte before the end\n");
     walk(length - 1);
     printf("the length of the second record lost, as erased flash reads\n");

@@ -26,18 +26,19 @@ extern "C" {
 
 /* The answers, each number with its one name. */
 enum emuparasol_answer {
-    EMUPARASOL_COMMITTED = 0,         /* the writes are stored; for other functions than meld: done */
-    EMUPARASOL_CONFLICT = 1,          /* a key that the record names or scans was written since its snapshot */
-    EMUPARASOL_TOO_OLD = 2,           /* the snapshot is more than Z positions back */
-    EMUPARASOL_NO_ROOM = 3,           /* more than N keys would have to be kept */
-    EMUPARASOL_MALFORMED = 4,         /* the record, or the lists to be written, break a rule */
-    EMUPARASOL_AHEAD = 5,             /* the snapshot is past the pool's position */
-    EMUPARASOL_POSITIONS_USED_UP = 6, /* the pool is at position 4,294,967,295 */
-    EMUPARASOL_UNFIT_POOL = 7,        /* the bytes lent as a pool are none */
-    EMUPARASOL_OUTPUT_SHORT = 8,      /* less room lent than needed */
-    EMUPARASOL_BAD_LIMITS = 9,        /* N or Z outside its range, or a pool of another size */
-    EMUPARASOL_TORN_LOG = 10,         /* too few bytes: the log merely stops, within a record */
-    EMUPARASOL_IMPOSSIBLE_LENGTH = 11 /* two bytes that are no length of a record: below 7 or above 13,833 */
+    EMUPARASOL_COMMITTED = 0,          /* the writes are stored; for other functions than meld: done */
+    EMUPARASOL_CONFLICT = 1,           /* a key that the record names or scans was written since its snapshot */
+    EMUPARASOL_TOO_OLD = 2,            /* the snapshot is more than Z positions back */
+    EMUPARASOL_NO_ROOM = 3,            /* more than N keys would have to be kept */
+    EMUPARASOL_MALFORMED = 4,          /* the record, or the lists to be written, break a rule */
+    EMUPARASOL_AHEAD = 5,              /* the snapshot is past the pool's position */
+    EMUPARASOL_POSITIONS_USED_UP = 6,  /* the pool is at position 4,294,967,295 */
+    EMUPARASOL_UNFIT_POOL = 7,         /* the bytes lent as a pool are none */
+    EMUPARASOL_OUTPUT_SHORT = 8,       /* less room lent than needed */
+    EMUPARASOL_BAD_LIMITS = 9,         /* N or Z outside its range, or a pool of another size */
+    EMUPARASOL_TORN_LOG = 10,          /* too few bytes: the log merely stops, within a record */
+    EMUPARASOL_IMPOSSIBLE_LENGTH = 11, /* two bytes that are no length of a record: below 7 or above 13,833 */
+    EMUPARASOL_CANNOT_JOIN = 12        /* the two records cannot be made one; each is as good as before by itself */
 };
 
 /* The name of an answer, as the rules have it (R3); "unknown answer" for any other number. Plain C, no part of the archive. */
@@ -54,7 +55,8 @@ static inline const char *emuparasol_answer_name(uint8_t answer) {
         "output short",
         "bad limits",
         "torn log",
-        "impossible length"
+        "impossible length",
+        "cannot join"
     };
     return answer < sizeof names / sizeof *names ? names[answer] : "unknown answer";
 }
@@ -173,6 +175,18 @@ uint8_t emuparasol_read(const uint8_t *record, uint64_t record_length, uint8_t *
 uint8_t emuparasol_write(uint32_t snapshot, const uint8_t *kinds, uint64_t kinds_length, const uint32_t *keys, uint64_t keys_length,
                          const uint64_t *payloads, uint64_t payloads_length, const uint32_t *lows, uint64_t lows_length, const uint32_t *highs,
                          uint64_t highs_length, uint8_t *output, uint64_t output_length, uint64_t *size);
+
+/* Makes one record of two that belong together. a is the first, meant for a position of the log, and b the second, meant for the next one; the joined
+   record is meant for the position of a. It has one verdict, and stores what both write or nothing. Where it commits, a and behind it b would have
+   committed too, unless b had come too late (too old, or no position left), and every key has the payload that they would have left, or none (R58).
+   Answers 0: the joined record is the first *size bytes of the output and the rest is as before. It has the snapshot of both; each key that either names,
+   once: as b has it if b puts or deletes it or a does not name it, and else as a has it; and the scans of both, of which those that share a key have
+   become one. At most 64 points and 8 scans give version 1, more of either version 2.
+   Answers 12 if they cannot be joined: a or b is malformed; their snapshots differ; b names or scans a key that a puts or deletes; or the joined record
+   would have more than 1,024 points or 64 scans. They can still be appended one after the other, each with a verdict of its own (docs/FIRMWARE.md, "Two
+   records as one"). Answers 8 if they can be joined and the output is shorter than the joined record. With 12 and 8 the output is as before and *size is
+   0. a and b are only read. EMUPARASOL_MOST_RECORD bytes are always enough, and so are a_length + b_length. */
+uint8_t emuparasol_join(const uint8_t *a, uint64_t a_length, const uint8_t *b, uint64_t b_length, uint8_t *output, uint64_t output_length, uint64_t *size);
 
 /* What stands at a place of a log. Answers 0 with *next above place: a record, up to *next; it need not be well formed. Answers 0 with *next equal to
    place: the log ends exactly here. Answers 10 with *next equal to place: there are too few bytes, and the log merely stops; fewer than two are left, or

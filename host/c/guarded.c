@@ -2,7 +2,7 @@
      guarded [SECONDS [SEED]]
    What is lent stands at the very end or the very start of a mapped area, with unmapped pages around it; what is lent to be read is lent through a
    mapping that cannot be written; what has no elements is often lent as NULL. Pools and records of both versions are made at random, whole and damaged, logs
-   are cut anywhere, carries are lent as a call has left them and as none does, and all twelve functions are called. After each call the answer, every number and
+   are cut anywhere, carries are lent as a call has left them and as none does, and all thirteen functions are called. After each call the answer, every number and
    every byte of every area must be what plain C leaves. At the first difference, and at an access that is not allowed, the seed and the call are
    printed and the status is 1. The same seed makes the same calls. */
 #define _DEFAULT_SOURCE
@@ -22,7 +22,7 @@ enum { LIST = EMUPARASOL_MOST_POINTS + 6, PAIRS = EMUPARASOL_MOST_SCANS + 6, FEW
 
 static uint64_t seed, calls, state;
 static unsigned long answers[16], happenings[4], completed, points_blamed, scans_blamed, lags_told, keys_told, wide_melded[16], wide_fed, wide_read;
-static unsigned long nothing_deleted, nothing_deleted_in_full;
+static unsigned long nothing_deleted, nothing_deleted_in_full, joined_records, joined_wide, joined_keys, joined_scans;
 static const char *doing = "";
 
 /* Random numbers (xorshift64*), below a limit. */
@@ -105,7 +105,7 @@ static void same(struct area *a, const void *bytes, const char *what) {
             fail("a byte behind what was lent was written");
 }
 
-static struct area pool_area, record_area, output_area, carry_area, carried_area, happened_area, kinds_area, keys_area, payloads_area, lows_area, highs_area, number_areas[7];
+static struct area pool_area, record_area, second_area, output_area, carry_area, carried_area, happened_area, kinds_area, keys_area, payloads_area, lows_area, highs_area, number_areas[7];
 
 /* A number lent to be written; what it is before must not matter. */
 static void *number(int which, size_t bytes) {
@@ -443,7 +443,7 @@ static void try_refresh(uint8_t *bytes, uint64_t length) {
     same(&output_area, output, "the outputs differ");
     doing = "in_force";
     if (one_in(4))
-        answer = (uint8_t)below(13);
+        answer = (uint8_t)below(14);
     uint64_t *to = number(0, 8), *also = number(1, 8);
     bool found = emuparasol_in_force(answer, shown(&record_area), size, shown(&output_area), room, to, also);
     answered(found, plain_in_force(answer, record, size, output, room, &offset, &part));
@@ -538,6 +538,58 @@ static void try_record(void) {
     same(&keys_area, lists.keys, "the keys were written");
 }
 
+/* How many points and scans a well-formed record has. */
+static uint32_t points_in(const uint8_t *record) { return record[2] == 1 ? record[7] : (uint32_t)record[7] << 8 | record[8]; }
+static uint32_t scans_in(const uint8_t *record) { return record[2] == 1 ? record[8] : (uint32_t)record[9] << 8 | record[10]; }
+
+/* Makes the points of a well-formed record reads, most of them or all. */
+static uint64_t calmed(uint8_t *record, uint64_t size) {
+    uint64_t points, scans;
+    uint32_t snapshot, spared = one_in(2) ? 0 : 30;
+    if (plain_read(record, size, lists.kinds, LIST, lists.keys, LIST, lists.payloads, LIST, lists.lows, PAIRS, lists.highs, PAIRS, &snapshot, &points, &scans) !=
+        EMUPARASOL_COMMITTED)
+        return size;
+    for (uint64_t i = 0; i < points; i++)
+        if (spared == 0 || !one_in(spared)) {
+            lists.kinds[i] = EMUPARASOL_KIND_READ;
+            lists.payloads[i] = 0;
+        }
+    plain_write(snapshot, lists.kinds, points, lists.keys, points, lists.payloads, points, lists.lows, scans, lists.highs, scans, record, RECORD_ROOM, &size);
+    return size;
+}
+
+/* Two records as one: most often with one snapshot and a first record that writes little. */
+static void try_join(void) {
+    static uint8_t a[RECORD_ROOM], b[RECORD_ROOM], output[RECORD_ROOM];
+    uint64_t first = make_record(a), size, second;
+    if (!one_in(4))
+        first = calmed(a, first);
+    second = make_record(b);
+    if (!one_in(8) && first >= 9 && second >= 9)
+        memcpy(b + 3, a + 3, 4);
+    uint64_t room = one_in(4) ? below((uint32_t)(first + second) + 1) : first + second;
+    if (room > RECORD_ROOM)
+        room = RECORD_ROOM;
+    memset(output, 0x3C, sizeof output);
+    doing = "join";
+    place(&record_area, a, first);
+    place(&second_area, b, second);
+    place(&output_area, output, room);
+    uint64_t *to = number(0, 8);
+    uint8_t answer = emuparasol_join(shown(&record_area), first, shown(&second_area), second, lent(&output_area), room, to);
+    answered(answer, plain_join(a, first, b, second, output, room, &size));
+    told(0, &size, "the sizes differ");
+    same(&output_area, output, "the outputs differ");
+    same(&record_area, a, "the first record was written");
+    same(&second_area, b, "the second record was written");
+    if (answer == EMUPARASOL_COMMITTED) {
+        joined_records++;
+        joined_wide += output[2] == 2;
+        joined_keys += points_in(output) < points_in(a) + points_in(b);
+        joined_scans += scans_in(output) < scans_in(a) + scans_in(b);
+    }
+}
+
 /* NULL for everything that is lent with a number of elements. */
 static void expected(uint8_t answer, uint8_t right) {
     if (answer != right)
@@ -567,10 +619,13 @@ static void try_nothing(void) {
     if (h != EMUPARASOL_MORE)
         fail("something else than more where nothing was lent");
     expected(emuparasol_refresh(NULL, 0, NULL, 0, NULL, 0), EMUPARASOL_UNFIT_POOL);
-    expected(emuparasol_in_force((uint8_t)below(13), NULL, 0, NULL, 0, &a, &b), false);
+    expected(emuparasol_in_force((uint8_t)below(14), NULL, 0, NULL, 0, &a, &b), false);
     expected(emuparasol_check(NULL, 0), EMUPARASOL_MALFORMED);
     expected(emuparasol_read(NULL, 0, NULL, 0, NULL, 0, NULL, 0, NULL, 0, NULL, 0, &p, &a, &b), EMUPARASOL_MALFORMED);
     expected(emuparasol_write(any(), NULL, 0, NULL, 0, NULL, 0, NULL, 0, NULL, 0, NULL, 0, &c), EMUPARASOL_OUTPUT_SHORT);
+    expected(emuparasol_join(NULL, 0, NULL, 0, NULL, 0, &c), EMUPARASOL_CANNOT_JOIN);
+    if (c != 0)
+        fail("a size where nothing was lent");
     expected(emuparasol_cut(NULL, 0, 0, &a), EMUPARASOL_COMMITTED);
     expected(emuparasol_cut(NULL, 0, 1 + (uint64_t)any(), &b), EMUPARASOL_TORN_LOG);
 }
@@ -590,7 +645,7 @@ static void episode(void) {
     try_create(n, z, pool_length);
     carried = stream_length = 0;
     for (int round = 0; round < 60; round++) {
-        switch (below(11)) {
+        switch (below(12)) {
         case 0:
             try_lookup(pool, pool_length);
             try_status(pool, pool_length);
@@ -600,6 +655,7 @@ static void episode(void) {
         case 5:
         case 6: try_feed(pool, pool_length); break;
         case 7: try_explain(pool, pool_length); break;
+        case 8: try_join(); break;
         case 3:
         case 4: {
             memcpy(copy, pool, pool_length);
@@ -636,6 +692,7 @@ int main(int argc, char **argv) {
     signal(SIGTRAP, caught);
     pool_area = area_of(POOL_ROOM);
     record_area = area_of(RECORD_ROOM);
+    second_area = area_of(RECORD_ROOM);
     output_area = area_of(RECORD_ROOM);
     carry_area = area_of(RECORD_ROOM);
     carried_area = area_of(8);
@@ -653,7 +710,7 @@ int main(int argc, char **argv) {
     while (time(NULL) < until);
     printf("guarded: %llu calls in %.0f s, seed %llu: no difference, nothing touched that was not lent\nanswers", (unsigned long long)calls,
            difftime(time(NULL), now), (unsigned long long)seed);
-    for (int i = 0; i < 12; i++) {
+    for (int i = 0; i < 13; i++) {
         printf(" %d:%lu", i, answers[i]);
         if (answers[i] == 0)
             fail("\nan answer did not occur");
@@ -669,6 +726,10 @@ int main(int argc, char **argv) {
     printf("deletes of keys that are not live: %lu records with some were counted, %lu of them into a full pool\n", nothing_deleted, nothing_deleted_in_full);
     if (nothing_deleted_in_full == 0)
         fail("no delete of nothing was committed into a full pool");
+    printf("joined: %lu, with a key that both name %lu, with scans that became one %lu, of version 2 %lu\n", joined_records, joined_keys, joined_scans,
+           joined_wide);
+    if (joined_keys == 0 || joined_scans == 0 || joined_wide == 0)
+        fail("something of joining did not happen");
     printf("version 2: committed %lu, conflict %lu, no room %lu, malformed %lu; begun in the carry %lu, read %lu\n", wide_melded[EMUPARASOL_COMMITTED],
            wide_melded[EMUPARASOL_CONFLICT], wide_melded[EMUPARASOL_NO_ROOM], wide_melded[EMUPARASOL_MALFORMED], wide_fed, wide_read);
     if (wide_melded[EMUPARASOL_COMMITTED] == 0 || wide_melded[EMUPARASOL_CONFLICT] == 0 || wide_melded[EMUPARASOL_NO_ROOM] == 0 ||

@@ -1,7 +1,8 @@
 // FOR C AND RUST: the public functions over plain numbers and slices, each under its own name in the archive. Whatever is lent, the number
-// that is answered and every number and byte left behind are fixed. The last four need no pool; `record_abi` has them alone.
+// that is answered and every number and byte left behind are fixed. The last five need no pool; `record_abi` has them alone.
 mod numbers;
 
+use joiner::join;
 use log::cut;
 use meld::create;
 use meld::in_force;
@@ -21,7 +22,8 @@ use record_abi::numbers::of_cut;
 use writer::write;
 ghost use Rattle.record.specs.Reader.{lists, ReadsAs};
 ghost use Rattle.writer.specs.Writer.{WritesAs};
-ghost use Rattle.record_abi.specs.Numbers.{answer, reading, written, found};
+ghost use Rattle.joiner.specs.Joiner.{JoinsAs};
+ghost use Rattle.record_abi.specs.Numbers.{answer, reading, written, joined, found};
 ghost use Rattle.record_abi.specs.Told.{ChecksAs, CutsAs};
 ghost use Rattle.create.specs.Fresh.{Created};
 ghost use Rattle.refresh.specs.Refreshed.{RefreshIs};
@@ -232,6 +234,17 @@ pub extern "C" fn emuparasol_write(
     let written = write(snapshot, kinds, keys, payloads, lows, highs, output);
     *size = written.size;
     let answer = written.answer;
+    answer.number
+}
+
+// Joins two records, meant for one position and the next, into one at the front of the output: 12, 8 or 0, with its size, 0 on a refusal.
+#[no_mangle]
+pub extern "C" fn emuparasol_join(a: &[u8], b: &[u8], output: &mut [u8], size: &mut usize) -> u8
+    ensures { λ r. ⌜ JoinsAs (now (a .entry)) (now (b .entry)) (now (output .entry)) (joined r (now (size .exit))) (now (output .exit)) ⌝ }
+{
+    let joined = join(a, b, output);
+    *size = joined.size;
+    let answer = joined.answer;
     answer.number
 }
 

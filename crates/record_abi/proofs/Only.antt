@@ -7,8 +7,11 @@ use mathlib.Core.List.{List}
 use Rattle.record.specs.declared.answer.Answer.{Answer}
 use Rattle.record.specs.Reader.{Lists, ReadOutcome, readOutcome, ReadsAs}
 use Rattle.writer.specs.Writer.{WriteOutcome, writeOutcome, WritesAs}
+use Rattle.joiner.specs.declared.Joined.{Joined}
+use Rattle.joiner.specs.Joiner.{JoinsAs}
+use Rattle.joiner.proofs.Only as Join
 use Rattle.record_abi.specs.declared.numbers.CutNumbers.{CutNumbers}
-use Rattle.record_abi.specs.Numbers.{reading, written, found}
+use Rattle.record_abi.specs.Numbers.{reading, written, joined, found}
 use Rattle.record_abi.specs.Told.{ChecksAs, CutsAs}
 
 -- `emuparasol_check`: one number
@@ -37,6 +40,13 @@ only-write snapshot l output r size q size′ left kept a b =
       ap (λ (o : WriteOutcome). o .written .size) same,
       ap (λ (o : WriteOutcome). o .left) same,
     )
+
+-- `emuparasol_join`: one number and size, and one content of the output
+pub only-join : (x y output : List ℕ) (r size q size′ : ℕ) (left kept : List ℕ)
+    → JoinsAs x y output (joined r size) left → JoinsAs x y output (joined q size′) kept → (r ≡ q) × (size ≡ size′) × (left ≡ kept)
+only-join x y output r size q size′ left kept a b =
+    let same = Join.only-join x y output (joined r size) (joined q size′) left kept a b in
+    (ap (λ (j : Joined). j .answer .number) (same .0), ap (λ (j : Joined). j .size) (same .0), same .1)
 
 -- `emuparasol_cut`: one number, and one place afterwards
 pub only-cut : (log : List ℕ) (place r next q next′ : ℕ) → CutsAs log place (found r next) → CutsAs log place (found q next′) → (r ≡ q) × (next ≡ next′)

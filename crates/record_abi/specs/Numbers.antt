@@ -6,6 +6,7 @@ use Rattle.words.specs.Choice.{valueOr}
 use Rattle.record.specs.declared.answer.Answer.{Answer}
 use Rattle.record.specs.declared.reader.Reading.{Reading}
 use Rattle.writer.specs.declared.Written.{Written}
+use Rattle.joiner.specs.declared.Joined.{Joined}
 use Rattle.log.specs.declared.found.Cut.{Cut}
 use Rattle.log.specs.Log.{CutTold, cutTold}
 use Rattle.record_abi.specs.declared.numbers.CutNumbers.{CutNumbers}
@@ -21,6 +22,10 @@ reading n s points scans = record { answer = answer n; snapshot = s; points = po
 -- what the writer gives back (R10), from the number and the size
 abbrev pub written : ℕ → ℕ → Written
 written n size = record { answer = answer n; size = size }
+
+-- what the joiner gives back (R56), from the number and the size
+abbrev pub joined : ℕ → ℕ → Joined
+joined n size = record { answer = answer n; size = size }
 
 -- the two numbers of a cut
 abbrev pub found : ℕ → ℕ → CutNumbers

@@ -1,7 +1,8 @@
-// FOR C AND RUST, the record part alone: check, read, write and cut over plain numbers and slices, for host tools that need no pool. The
-// archive has these four functions and nothing of a pool; `abi` has the same four beside those of the pool, with the same promises.
+// FOR C AND RUST, the record part alone: check, read, write, join and cut over plain numbers and slices, for host tools that need no pool. The
+// archive has these five functions and nothing of a pool; `abi` has the same five beside those of the pool, with the same promises.
 pub mod numbers;
 
+use joiner::join;
 use log::cut;
 use numbers::of_cut;
 use record::check;
@@ -9,7 +10,8 @@ use record::read;
 use writer::write;
 ghost use Rattle.record.specs.Reader.{lists, ReadsAs};
 ghost use Rattle.writer.specs.Writer.{WritesAs};
-ghost use Rattle.record_abi.specs.Numbers.{reading, written, found};
+ghost use Rattle.joiner.specs.Joiner.{JoinsAs};
+ghost use Rattle.record_abi.specs.Numbers.{reading, written, joined, found};
 ghost use Rattle.record_abi.specs.Told.{ChecksAs, CutsAs};
 
 // 0 where the bytes lent are exactly one well-formed record, else 4.
@@ -66,6 +68,17 @@ pub extern "C" fn emuparasol_write(
     let written = write(snapshot, kinds, keys, payloads, lows, highs, output);
     *size = written.size;
     let answer = written.answer;
+    answer.number
+}
+
+// Joins two records, meant for one position and the next, into one at the front of the output: 12, 8 or 0, with its size, 0 on a refusal.
+#[no_mangle]
+pub extern "C" fn emuparasol_join(a: &[u8], b: &[u8], output: &mut [u8], size: &mut usize) -> u8
+    ensures { λ r. ⌜ JoinsAs (now (a .entry)) (now (b .entry)) (now (output .entry)) (joined r (now (size .exit))) (now (output .exit)) ⌝ }
+{
+    let joined = join(a, b, output);
+    *size = joined.size;
+    let answer = joined.answer;
     answer.number
 }
 

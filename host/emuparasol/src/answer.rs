@@ -77,7 +77,7 @@ impl fmt::Display for Verdict {
     }
 }
 
-/// Why a call did not do what it was asked: answers 1 to 11. What a refusal leaves
+/// Why a call did not do what it was asked: answers 1 to 12. What a refusal leaves
 /// behind is said at each call; in a word, everything as it was.
 ///
 /// ```
@@ -115,6 +115,8 @@ pub enum Error {
     /// Two bytes that are no length of a record, below 7 or above 13,833: no record
     /// can stand there, whatever comes behind them.
     ImpossibleLength,
+    /// The two records cannot be made one (R56). Each is as good as before by itself.
+    CannotJoin,
     /// A number that R3 does not have, or 0 beside a length or a number that cannot be.
     /// The library is proved to answer no such thing; another archive might.
     Unknown(u8),
@@ -135,6 +137,7 @@ impl Error {
             Error::BadLimits => 9,
             Error::TornLog => 10,
             Error::ImpossibleLength => 11,
+            Error::CannotJoin => 12,
             Error::Unknown(number) => number,
         }
     }
@@ -161,6 +164,7 @@ impl Error {
             Error::BadLimits => "bad limits",
             Error::TornLog => "torn log",
             Error::ImpossibleLength => "impossible length",
+            Error::CannotJoin => "cannot join",
             Error::Unknown(_) => "unknown answer",
         }
     }
@@ -179,6 +183,7 @@ impl Error {
             9 => Error::BadLimits,
             10 => Error::TornLog,
             11 => Error::ImpossibleLength,
+            12 => Error::CannotJoin,
             number => Error::Unknown(number),
         }
     }

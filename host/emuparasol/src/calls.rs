@@ -229,6 +229,22 @@ pub fn write(
     }
 }
 
+/// See `emuparasol_join`.
+pub fn join(a: &[u8], b: &[u8], output: &mut [u8], size: &mut u64) -> u8 {
+    // SAFETY: slices and references, as the head of this file says.
+    unsafe {
+        emuparasol_join(
+            a.as_ptr(),
+            a.len() as u64,
+            b.as_ptr(),
+            b.len() as u64,
+            output.as_mut_ptr(),
+            output.len() as u64,
+            size,
+        )
+    }
+}
+
 /// See `emuparasol_cut`.
 pub fn cut(log: &[u8], place: u64, next: &mut u64) -> u8 {
     // SAFETY: slices and references, as the head of this file says.

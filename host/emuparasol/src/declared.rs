@@ -104,6 +104,15 @@ extern "C" {
         output_length: u64,
         size: *mut u64,
     ) -> u8;
+    pub fn emuparasol_join(
+        a: *const u8,
+        a_length: u64,
+        b: *const u8,
+        b_length: u64,
+        output: *mut u8,
+        output_length: u64,
+        size: *mut u64,
+    ) -> u8;
     pub fn emuparasol_cut(log: *const u8, log_length: u64, place: u64, next: *mut u64) -> u8;
 }
 

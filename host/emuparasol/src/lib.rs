@@ -29,5 +29,6 @@ pub use log::{NoRecord, Records};
 pub use pool::{in_force, pool_bytes, Found, Limits, Melded, Pool, Status};
 pub use reason::{Explained, Reason, Touch};
 pub use record::{
-    check, Point, Record, RecordBuffer, Scan, LEAST_RECORD, MOST_POINTS, MOST_RECORD, MOST_SCANS,
+    check, join, Point, Record, RecordBuffer, Scan, LEAST_RECORD, MOST_POINTS, MOST_RECORD,
+    MOST_SCANS,
 };

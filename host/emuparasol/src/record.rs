@@ -361,6 +361,52 @@ pub fn check(record: &[u8]) -> Result<(), Error> {
     done(calls::check(record))
 }
 
+/// Makes one record of two that belong together, at the front of the output, and gives its
+/// bytes; the rest of the output is as it was (R56). `a` is the first, meant for a position
+/// of the log, and `b` the second, meant for the next one; the joined record is meant for
+/// the position of `a`.
+///
+/// It has one verdict, and stores what both write or nothing. Where it commits, every key
+/// has the payload that `a` and behind it `b` would have left, or none (R58). It names each
+/// key that either names, once: as `b` has it if `b` puts or deletes it or `a` does not name
+/// it, and else as `a` has it. Its scans are those of both, of which those that share a key
+/// have become one.
+///
+/// [`MOST_RECORD`] bytes are always enough, and so are as many as `a` and `b` have together.
+///
+/// # Errors
+/// [`Error::CannotJoin`] if one of the two is malformed, their snapshots differ, `b` names or
+/// scans a key that `a` puts or deletes, or the joined record would have more than
+/// [`MOST_POINTS`] points or [`MOST_SCANS`] scans: append them one after the other then, each
+/// with a verdict of its own (docs/FIRMWARE.md, "Two records as one"). Else
+/// [`Error::OutputShort`] if the output is shorter than the joined record. The output is then
+/// as it was.
+///
+/// ```
+/// use emuparasol::{join, Error, Point, Record, MOST_RECORD};
+///
+/// // A lease of port 5000, and the tenant's count of leases, which was 3.
+/// let (mut a, mut b) = ([0; 50], [0; 50]);
+/// let points = [Point::read(7), Point::put(5000, 1)];
+/// let a = Record { snapshot: 9, points: &points, scans: &[] }.write(&mut a)?;
+/// let points = [Point::put(7, 4)];
+/// let b = Record { snapshot: 9, points: &points, scans: &[] }.write(&mut b)?;
+///
+/// let mut output = [0; MOST_RECORD];
+/// let points = [Point::put(7, 4), Point::put(5000, 1)];
+/// let both = Record { snapshot: 9, points: &points, scans: &[] };
+/// assert_eq!(join(a, b, &mut output)?, both.write(&mut [0; 50])?);
+///
+/// // The other way round the second names what the first puts.
+/// assert_eq!(join(b, a, &mut output), Err(Error::CannotJoin));
+/// # Ok::<(), Error>(())
+/// ```
+pub fn join<'o>(a: &[u8], b: &[u8], output: &'o mut [u8]) -> Result<&'o [u8], Error> {
+    let mut size = 0;
+    done(calls::join(a, b, output, &mut size))?;
+    front(output, size)
+}
+
 /// The lists of R10, with room for so many points and scans.
 struct Lists<const POINTS: usize, const SCANS: usize> {
     kinds: [u8; POINTS],

@@ -22,13 +22,13 @@ fn of_rules() -> Vec<(u8, String)> {
 }
 
 #[test]
-fn r3_has_twelve_answers() {
+fn r3_has_thirteen_answers() {
     let numbers: Vec<u8> = of_rules().into_iter().map(|(number, _)| number).collect();
-    assert_eq!(numbers, (0..=11).collect::<Vec<u8>>());
+    assert_eq!(numbers, (0..=12).collect::<Vec<u8>>());
 }
 
 #[test]
-fn errors_are_the_answers_1_to_11() {
+fn errors_are_the_answers_1_to_12() {
     assert_eq!(Error::from_number(0), None);
     for (number, name) in of_rules().into_iter().skip(1) {
         let error = Error::from_number(number).expect("a refusal");
@@ -40,7 +40,7 @@ fn errors_are_the_answers_1_to_11() {
         let case = format!("{error:?}").to_lowercase();
         assert_eq!(case, name.replace(' ', ""));
     }
-    for number in 12..=255 {
+    for number in 13..=255 {
         let error = Error::from_number(number).expect("a refusal");
         assert_eq!(error, Error::Unknown(number));
         assert_eq!(error.number(), number);

@@ -4,7 +4,7 @@
 //! `9` for bad limits; nothing where the input cannot be read to its end, or is longer than
 //! there is room for.
 //!
-//! Along the way each record is taken apart and written again, refreshed, explained and
+//! Along the way each record is taken apart and written again, joined, refreshed, explained and
 //! looked up, and the log is fed page by page into a second pool, which must say and become the
 //! same; where anything is not as it must be, a line `DIFFERS` goes out.
 //!
@@ -17,8 +17,8 @@
 mod system;
 
 use emuparasol::{
-    check, in_force, pool_bytes, Carry, Error, Fed, Limits, Melded, Point, Pool, Reason, Record,
-    RecordBuffer, Records, Touch, Verdict, LEAST_RECORD, MOST_RECORD,
+    check, in_force, join, pool_bytes, Carry, Error, Fed, Limits, Melded, Point, Pool, Reason,
+    Record, RecordBuffer, Records, Touch, Verdict, LEAST_RECORD, MOST_RECORD,
 };
 use system::{read_all, say, say_number};
 
@@ -90,6 +90,31 @@ fn small_alike(bytes: &[u8], small: &mut RecordBuffer<64, 8>, buffer: &RecordBuf
         Err(Error::OutputShort) => points.len() > 64 || scans.len() > 8,
         Err(error) => check(bytes) == Err(error),
     }
+}
+
+/// Is the record, joined with one that has its snapshot and nothing in it, the record itself,
+/// and with itself too if it writes nothing (R57)? One that is malformed cannot be joined, and
+/// one that writes not with itself (R56).
+fn joined_alike(bytes: &[u8], record: Record<'_>, output: &mut [u8]) -> bool {
+    if check(bytes).is_err() {
+        return join(bytes, bytes, output) == Err(Error::CannotJoin);
+    }
+    let mut room = [0; LEAST_RECORD];
+    let nothing = Record {
+        snapshot: record.snapshot,
+        ..Record::default()
+    };
+    let Ok(nothing) = nothing.write(&mut room) else {
+        return false;
+    };
+    let read = |point: &Point| matches!(point, Point::Read { .. });
+    let itself = match record.points.iter().all(read) {
+        true => Ok(bytes),
+        false => Err(Error::CannotJoin),
+    };
+    join(bytes, nothing, output) == Ok(bytes)
+        && join(nothing, bytes, output) == Ok(bytes)
+        && join(bytes, bytes, output) == itself
 }
 
 /// Does a refresh before the meld agree with its verdict (R38)?
@@ -200,6 +225,7 @@ fn meld_log(bytes: &mut [u8], limits: Limits, log: &[u8]) -> Result<(), Error> {
             && paged.pool.as_bytes() == pool.as_bytes()
             && there_and_back(part, &mut buffer, &mut output)
             && small_alike(part, &mut small, &buffer)
+            && joined_alike(part, buffer.record(), &mut output)
             && part.len() >= LEAST_RECORD
             && status.limits == limits
             && status.tombstones <= status.kept

@@ -31,7 +31,7 @@ fn noticed(name: &str, edit: impl FnOnce(&mut Sources)) {
 fn the_committed_files_agree() {
     let (found, functions, answers) = committed().differences().expect("known forms");
     assert_eq!(found, Vec::<String>::new());
-    assert_eq!((functions, answers), (12, 12));
+    assert_eq!((functions, answers), (13, 13));
 }
 
 #[test]
@@ -85,6 +85,7 @@ fn a_changed_header_is_noticed() {
             "\"torn log\",\n        \"impossible length\"",
             "\"impossible length\",\n        \"torn log\"",
         ),
+        ("CANNOT_JOIN = 12", ",\n        \"cannot join\"", ""),
         (
             "IMPOSSIBLE_LENGTH = 11",
             ",\n        \"impossible length\"",
@@ -242,6 +243,39 @@ fn a_changed_explain_is_noticed() {
     });
     noticed("emuparasol_explain", |it| {
         change(&mut it.rattle, "keys: &mut u32", "keys: u32")
+    });
+}
+
+#[test]
+fn a_changed_join_is_noticed() {
+    noticed("emuparasol_join", |it| {
+        let (from, to) = (
+            "const uint8_t *a, uint64_t a_length",
+            "const uint8_t *b, uint64_t b_length",
+        );
+        change(&mut it.header, from, to)
+    });
+    noticed("emuparasol_join", |it| {
+        change(&mut it.declared, "b: *const u8", "b: *mut u8")
+    });
+    noticed("emuparasol_join", |it| {
+        change(&mut it.rattle, "a: &[u8], b: &[u8]", "b: &[u8], a: &[u8]")
+    });
+    noticed("emuparasol_join", |it| {
+        let (from, to) = (
+            "fn emuparasol_join(a: &[u8]",
+            "fn emuparasol_join(a: &mut [u8]",
+        );
+        change(&mut it.rattle_records, from, to)
+    });
+    noticed("CANNOT_JOIN", |it| {
+        change(&mut it.header, "CANNOT_JOIN = 12", "CANNOT_JOIN = 13")
+    });
+    noticed("CANNOT_JOIN", |it| {
+        change(&mut it.rust_answers, "Error::CannotJoin => 12,", "")
+    });
+    noticed("CANNOT_JOIN", |it| {
+        change(&mut it.rattle_answers, "number: 12", "number: 11")
     });
 }
 

@@ -308,6 +308,25 @@ pub fn write(record: &Record<'_>, room: usize) -> (u8, Vec<u8>) {
     (answer, output)
 }
 
+/// `join` into so much room: the answer, and the whole output. A refusal leaves the output as
+/// it was, and what is given is its front.
+pub fn join(a: &[u8], b: &[u8], room: usize) -> (u8, Vec<u8>) {
+    let (mut first, mut second) = (bytes(a), bytes(b));
+    let mut filled = bytes(&vec![0xC3; room]);
+    let said = emuparasol::join(first.lent(), second.lent(), filled.lent());
+    let (answer, given) = (number(&said), said.map(<[u8]>::to_vec));
+    first.same(a);
+    second.same(b);
+    let output = filled.back();
+    let mut by_call = vec![0xC3; room];
+    let size = given.as_ref().map_or(0, Vec::len);
+    assert_eq!(raw::join(a, b, &mut by_call), (answer, size));
+    assert_eq!(by_call, output);
+    assert_eq!(given.unwrap_or_default(), output[..size]);
+    assert!(output[size..].iter().all(|&byte| byte == 0xC3));
+    (answer, output)
+}
+
 /// A buffer that holds the fullest record: 1,024 points and 64 scans, no number 0.
 pub fn full_buffer() -> Box<RecordBuffer> {
     static FULL: OnceLock<Box<RecordBuffer>> = OnceLock::new();

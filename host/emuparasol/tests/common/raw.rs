@@ -210,6 +210,22 @@ pub fn write(snapshot: u32, lists: &Lists, output: &mut Vec<u8>) -> (u8, usize) 
     (answer, place(written.number()))
 }
 
+/// `join` into this output: the answer and the size.
+pub fn join(a: &[u8], b: &[u8], output: &mut Vec<u8>) -> (u8, usize) {
+    let (mut first, mut second) = (bytes(a), bytes(b));
+    let (mut filled, mut joined) = (bytes(output), size());
+    let answer = calls::join(
+        first.lent(),
+        second.lent(),
+        filled.lent(),
+        &mut joined.lent()[0],
+    );
+    first.same(a);
+    second.same(b);
+    *output = filled.back();
+    (answer, place(joined.number()))
+}
+
 /// `cut`: the answer and the next place.
 pub fn cut(log: &[u8], from: usize) -> (u8, usize) {
     let (mut lent, mut next) = (bytes(log), size());
