@@ -43,6 +43,8 @@ impl Set {
         set.whole.extend(nothing);
         let nothing = numbered(&mut next, ideas::reason::of_nothing());
         set.reasons.extend(nothing);
+        let joined = numbered(&mut next, ideas::joined::all());
+        set.whole.extend(joined);
         set
     }
 }

@@ -38,6 +38,7 @@ pub fn all() -> Vec<Case> {
         edges::larger(),
         ideas::nothing::all(),
         edges::nothing(),
+        ideas::joined::all(),
     ]
     .concat()
 }

@@ -6,10 +6,11 @@ use cases::{all, ideas, sequence, Case, InParts};
 use compare::mistaken::feed::{self, FeedMistake};
 use compare::mistaken::reason::{self, ReasonMistake};
 use compare::mistaken::{lines, Mistake};
+use reference::joiner;
 use reference::log::parts;
 use reference::pages;
 use reference::program::{self, run, split};
-use reference::{Flaw, Record};
+use reference::{Answer, Flaw, Record};
 
 /// Does a program with this mistake print something else for this case?
 fn shows(case: &Case, mistake: Option<Mistake>) -> bool {
@@ -283,6 +284,76 @@ fn each_case_of_deletes_catches_the_mistakes_that_it_is_made_for() {
         for &mistake in *mistakes {
             assert!(shows(case, Some(mistake)), "{name}: {}", mistake.words());
         }
+    }
+}
+
+/// The cases of joined records, and the mistakes that each is made for.
+const JOINED: &[(&str, &[Mistake])] = &[
+    ("one-by-one-scan-then-put", &[Mistake::ReadsWrite]),
+    (
+        "joined-scan-then-put",
+        &[
+            Mistake::OverlapRefused,
+            Mistake::ScansNextRefused,
+            Mistake::SnapshotInZone,
+        ],
+    ),
+    (
+        "one-by-one-tombstone-needed",
+        &[
+            Mistake::TombstonesDoNotConflict,
+            Mistake::DroppedEarly,
+            Mistake::OldAtZ,
+        ],
+    ),
+    (
+        "joined-tombstone-needed",
+        &[Mistake::TombstonesDoNotConflict, Mistake::AbortedWriter],
+    ),
+    (
+        "one-by-one-room-a-position-later",
+        &[Mistake::NeverDropped, Mistake::DroppedLate],
+    ),
+    (
+        "joined-room-a-position-later",
+        &[
+            Mistake::DroppedEarly,
+            Mistake::DroppedLate,
+            Mistake::RoomForOneMore,
+        ],
+    ),
+];
+
+#[test]
+fn each_case_of_joined_records_catches_the_mistakes_that_it_is_made_for() {
+    let cases = ideas::joined::all();
+    assert_eq!(cases.len(), JOINED.len());
+    for (case, (name, mistakes)) in cases.iter().zip(JOINED) {
+        assert_eq!(case.name, *name);
+        for &mistake in *mistakes {
+            assert!(shows(case, Some(mistake)), "{name}: {}", mistake.words());
+        }
+    }
+}
+
+/// What stands in the second log of each pair is what joining makes of the two in the first.
+#[test]
+fn the_second_of_each_pair_has_the_two_as_one() {
+    for pair in ideas::joined::all().chunks_exact(2) {
+        let [one_by_one, as_one] = [&pair[0], &pair[1]].map(|case| {
+            let (_, log) = split(&case.input).expect("good limits");
+            parts(log).0
+        });
+        let place = one_by_one
+            .iter()
+            .zip(&as_one)
+            .position(|(one, other)| one != other)
+            .expect("they differ");
+        let mut out = vec![0; 13_835];
+        let (a, b) = (one_by_one[place], one_by_one[place + 1]);
+        let (answer, size) = joiner::join(a, b, &mut out);
+        assert_eq!(answer, Answer::Committed);
+        assert_eq!(as_one[place], &out[..size], "{}", pair[1].name);
     }
 }
 

@@ -28,11 +28,13 @@ pub enum Answer {
     TornLog = 10,
     /// A length that no record has.
     ImpossibleLength = 11,
+    /// Two records cannot be one.
+    CannotJoin = 12,
 }
 
 impl Answer {
     /// Every answer, in the order of the numbers.
-    pub const ALL: [Answer; 12] = [
+    pub const ALL: [Answer; 13] = [
         Answer::Committed,
         Answer::Conflict,
         Answer::TooOld,
@@ -45,6 +47,7 @@ impl Answer {
         Answer::BadLimits,
         Answer::TornLog,
         Answer::ImpossibleLength,
+        Answer::CannotJoin,
     ];
 
     /// Its number in R3.
@@ -67,6 +70,7 @@ impl Answer {
             Answer::BadLimits => "bad limits",
             Answer::TornLog => "torn log",
             Answer::ImpossibleLength => "impossible length",
+            Answer::CannotJoin => "cannot join",
         }
     }
 }

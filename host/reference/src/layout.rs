@@ -1,9 +1,11 @@
 //! The bytes of a pool: docs/LAYOUT.md written down straight. What state they
-//! mean, or none if they are no state's image, which is answer 7.
+//! mean, or none if they are no state's image, which is answer 7; and bytes that mean a
+//! state, be it one that a log makes or not.
 
 use std::collections::BTreeMap;
 
 use crate::state::{Kept, Limits, State};
+use crate::tree::Tree;
 
 /// "None" of docs/LAYOUT.md.
 const NONE: u32 = u32::MAX;
@@ -37,6 +39,56 @@ pub fn state_of(bytes: &[u8]) -> Option<State> {
     (pool.kept.len() == kept as usize).then_some(())?;
     pool.free_nodes(free)?;
     Some(State::of_kept(limits, position, pool.kept))
+}
+
+/// A pool that means this state: the nodes of the tree in the order of a walk, a node
+/// behind its children, and then the free ones.
+pub fn image_of(state: &State) -> Vec<u8> {
+    let (n, z) = (state.limits().n(), state.limits().z());
+    let keys: Vec<(u32, u32)> = state.kept().iter().map(leaf_of).collect();
+    let mut nodes: Vec<[u32; 8]> = Vec::new();
+    let root = Tree::build(&keys).map_or(NONE, |tree| placed(&tree, state, &mut nodes).0);
+    let (used, all) = (nodes.len() as u32, 2 * n);
+    for number in used..all {
+        let next = if number + 1 < all { number + 1 } else { NONE };
+        nodes.push([NONE, next, all - number, 0, 0, 0, 0, 0]);
+    }
+    let head = [MARK, n, z, state.position(), keys.len() as u32, root, used];
+    let words = head.into_iter().chain([0; 9]).chain(nodes.concat());
+    words.flat_map(u32::to_be_bytes).collect()
+}
+
+/// A kept key and its position, as a tree is built of.
+fn leaf_of((&key, kept): (&u32, &Kept)) -> (u32, u32) {
+    (key, kept.position)
+}
+
+/// Adds the nodes of a tree: the number of its root, and its oldest.
+fn placed(tree: &Tree, state: &State, nodes: &mut Vec<[u32; 8]>) -> (u32, u32) {
+    let newest = tree.newest();
+    let (words, oldest) = match tree {
+        Tree::Leaf { key, .. } => match state.lookup(*key) {
+            Some((payload, _)) => {
+                let (left, right) = ((payload >> 32) as u32, payload as u32);
+                ([0, *key, newest, NONE, left, right, 1, 0], NONE)
+            }
+            None => ([0, *key, newest, newest, 0, 0, 2, 0], newest),
+        },
+        Tree::Inner {
+            low,
+            high,
+            children,
+            ..
+        } => {
+            let (left, on_the_left) = placed(&children.0, state, nodes);
+            let (right, on_the_right) = placed(&children.1, state, nodes);
+            let oldest = on_the_left.min(on_the_right);
+            let height = u64::from(high - low).count_ones();
+            ([height, *low, newest, oldest, left, right, 0, 0], oldest)
+        }
+    };
+    nodes.push(words);
+    (nodes.len() as u32 - 1, oldest)
 }
 
 /// Four bytes, big-endian.

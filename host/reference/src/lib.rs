@@ -2,7 +2,7 @@
 //! shares nothing with the proved one. Obvious before quick. R and a number is
 //! a rule of that page.
 //!
-//! From the bottom up: `answer`, `flaw`, `version`, `record`, `lists`, `log`, `tree`, `state`,
+//! From the bottom up: `answer`, `flaw`, `version`, `record`, `lists`, `joiner`, `log`, `tree`, `state`,
 //! `refresh`, `feed`, `program`, `pages`, `reason`; `layout` for the bytes of a pool.
 //! `table` has the eleven rows of R44 and the eight of R55, `words` puts inputs into words,
 //! `random` is for tests and for the tool that compares.
@@ -11,6 +11,7 @@
 pub mod answer;
 pub mod feed;
 pub mod flaw;
+pub mod joiner;
 pub mod layout;
 pub mod lists;
 pub mod log;

@@ -1,8 +1,10 @@
 //! The three pools of docs/LAYOUT.md, read from there.
 #![forbid(unsafe_code)]
 
-use reference::layout::state_of;
+use reference::layout::{image_of, state_of};
+use reference::random::Random;
 use reference::record::Point;
+use reference::state::Kept;
 use reference::table::{self, record};
 use reference::{Limits, State};
 
@@ -55,6 +57,31 @@ fn the_pool_after_a_drop_means_its_state() {
     assert_eq!(meant.position(), 3);
     assert_eq!(meant.kept(), state.kept());
     assert_eq!(meant.kept().len(), 2);
+}
+
+#[test]
+fn the_image_of_a_new_state_is_the_pool_that_is_printed() {
+    let limits = Limits::new(table::N, table::Z).expect("good limits");
+    assert_eq!(image_of(&State::new(limits)), printed()[0]);
+}
+
+/// Whatever is kept, at whatever positions: the image means the state that it is made of.
+#[test]
+fn the_image_of_a_state_means_it() {
+    let mut random = Random::new(5);
+    for _ in 0..500 {
+        let n = random.between(1, 20);
+        let limits = Limits::new(n, random.between(1, 9)).expect("good limits");
+        let position = random.pick(&[1, 7, 1_000, u32::MAX - 2, u32::MAX]);
+        let kept = (0..random.below(n as usize + 1)).map(|_| {
+            let payload = random.percent(60).then(|| random.bits());
+            let key = random.pick(&[0, 1, 2, 3, 1 << 31, u32::MAX]) ^ random.between(0, 30);
+            let position = random.between(1, position);
+            (key, Kept { position, payload })
+        });
+        let state = State::of_kept(limits, position, kept.collect());
+        assert_eq!(state_of(&image_of(&state)), Some(state));
+    }
 }
 
 #[test]

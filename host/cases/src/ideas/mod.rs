@@ -1,9 +1,9 @@
 //! The conformance set: small logs, one idea each, by section of docs/RULES.md.
-//! The snapshot read little-endian comes first, deletes that write nothing last. Module
-//! `parts` has those of the page form, module `reason` those for which the reasons matter.
+//! The snapshot read little-endian comes first, joined records last. Module `parts` has those of the page form, module `reason` those for which the reasons matter.
 
 mod conflict;
 mod easy;
+pub mod joined;
 pub mod larger;
 mod limits;
 pub mod log;
@@ -23,7 +23,14 @@ use crate::Case;
 
 /// Every idea of the program.
 pub fn all() -> Vec<Case> {
-    [first(), log::endings(), larger::all(), nothing::all()].concat()
+    [
+        first(),
+        log::endings(),
+        larger::all(),
+        nothing::all(),
+        joined::all(),
+    ]
+    .concat()
 }
 
 /// Those that have the first numbers, in the order of the files.

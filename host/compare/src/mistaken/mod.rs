@@ -3,7 +3,8 @@
 //! Without a mistake it is a third way to the same answers: it decides by the
 //! kept positions and in the conflict walk itself, where the reference scans
 //! the committed writes. Module `feed` is the page form in this way, module `reason`
-//! the reasons, module `writer` the writer and refresh. All are for tests only.
+//! the reasons, module `writer` the writer and refresh, module `joiner` joining. All are for
+//! tests only.
 
 /// An enum of mistakes with their words.
 macro_rules! mistakes {
@@ -39,6 +40,7 @@ macro_rules! mistakes {
 mod explainer;
 pub mod feed;
 mod feeder;
+pub mod joiner;
 mod meld;
 pub mod reason;
 mod record;
