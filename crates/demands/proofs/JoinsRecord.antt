@@ -14,7 +14,8 @@ use Rattle.record.specs.declared.point.Point.{Point}
 use Rattle.record.specs.declared.point.Scan.{Scan}
 use Rattle.record.specs.Record.{Rec, keyOf, PointsRise, Valid}
 use Rattle.joiner.specs.Joined.{putsOrDeletes, namesKey, scansKey, joinedOf, canJoin}
-use Rattle.joiner.proofs.PointContent.{entryAt, bothEntries, names-joined, entry-joined}
+use Rattle.joiner.specs.ByKey.{entryAt, bothEntries}
+use Rattle.joiner.proofs.PointContent.{names-joined, entry-joined}
 use Rattle.joiner.proofs.ScanContent.{scans-joined}
 use Rattle.joiner.proofs.Content.{can-join, clear-of}
 use Rattle.rules.specs.Demands.{Reaches}

@@ -15,7 +15,7 @@ use Rattle.record.specs.declared.point.Point.{Point}
 use Rattle.record.specs.declared.point.Point.the-variants.{Read, Put, Delete}
 use Rattle.record.specs.Record.{Rec, Valid}
 use Rattle.joiner.specs.Joined.{putsOrDeletes}
-use Rattle.joiner.proofs.PointContent.{entryAt, bothEntries}
+use Rattle.joiner.specs.ByKey.{entryAt, bothEntries}
 use Rattle.rules.specs.State.{Entry, State, lastPosition, Lawful}
 use Rattle.rules.specs.Footprint.{liveAt, writes, writesOf}
 use Rattle.rules.specs.Lookup.{find}

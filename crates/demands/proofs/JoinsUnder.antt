@@ -15,7 +15,7 @@ use Rattle.record.specs.Record.{PointsRise}
 use Rattle.record.specs.declared.point.Point.{Point}
 use Rattle.record.specs.declared.point.Point.the-variants.{Read, Put, Delete}
 use Rattle.record.proofs.Cases.{by-case}
-use Rattle.joiner.proofs.PointContent.{entryAt}
+use Rattle.joiner.specs.ByKey.{entryAt}
 use Rattle.rules.specs.Lists.{keep}
 use Rattle.rules.specs.State.{Entry, State, isLive, Rising, end, link, Lawful}
 use Rattle.rules.specs.Footprint.{liveAt, writesOf}

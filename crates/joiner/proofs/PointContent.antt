@@ -9,11 +9,11 @@ use mathlib.Core.List.{List, [], _∷_}
 use native.Mathlib.Omega.{arith}
 use lib.Dec.{ltb, eqb}
 use borrow.Author.Tests.{ltb-true, ltb-false, eqb-true, ne-eqb}
-use Rattle.words.specs.Choice.{if_then_else_}
 use Rattle.record.specs.declared.point.Point.{Point}
 use Rattle.record.specs.Record.{keyOf, payloadOf, PointsRise}
 use Rattle.record.proofs.Cases.{by-case}
 use Rattle.joiner.specs.Joined.{putsOrDeletes, entryOf, withPoint, joinedPoints, namesKey}
+use Rattle.joiner.specs.ByKey.{entryAt, bothEntries}
 use Rattle.joiner.proofs.PointJoin.{key-entry}
 
 -- THE KEYS
@@ -103,17 +103,6 @@ pub points-rise-joined : (ps qs : List Point) → PointsRise 0 ps → PointsRise
 points-rise-joined ps qs r t = rise-joined 0 0 ps qs (omega arith) r t
 
 -- THE ENTRY OF A KEY
-
--- R57: the first point with the key, if there is one
-abbrev pub entryAt : ℕ → List Point → Option Point
-entryAt k [] = none
-entryAt k (p ∷ ps) = if eqb (keyOf p) k then some p else entryAt k ps
-
--- R57: what the entries of a and b for one key come to
-abbrev pub bothEntries : Option Point → Option Point → Option Point
-bothEntries none y = y
-bothEntries (some p) none = some p
-bothEntries (some p) (some q) = some (entryOf p q)
 
 -- nothing beside an entry leaves it
 both-none : (x : Option Point) → bothEntries x none ≡ x

@@ -1,4 +1,5 @@
 pub mod Joined
+pub mod ByKey
 pub mod Joiner
 pub mod ScanSteps
 pub mod PointSteps
