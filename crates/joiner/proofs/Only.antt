@@ -20,7 +20,7 @@ use Rattle.record.proofs.Cases.{by-case, no-some}
 use Rattle.record.proofs.RoundTrip.{parse-bytesOf, bytesOf-parse}
 use Rattle.joiner.specs.declared.Joined.{Joined}
 use Rattle.joiner.specs.Joined.{joinedOf, canJoin, joinedIf}
-use Rattle.joiner.specs.Joiner.{JoinOutcome, joinOutcome, joinedTo, joinOf, JoinsAs}
+use Rattle.joiner.specs.Joiner.{JoinGave, JoinOutcome, joinOutcome, joinedTo, joinOf, JoinsAs}
 use Rattle.joiner.proofs.WellJoined.{joined-valid}
 
 -- `join`: one answer and size, and one content of the output
@@ -59,17 +59,7 @@ if-gave (some a) (some b) r e k =
     (λ c. let z : some (joinedOf a b) ≡ some r = simp c at e in k a b refl refl c (let q : joinedOf a b ≡ r = cc in sym q))
     (λ c. no-some (simp c at e))
 
--- R56: what an answer of 0 says: the two records that the bytes are, that they can be joined, the size given, and what stands at the front
-pub record JoinGave (a b : List ℕ) (j : Joined) (after : List ℕ) : Type 0 where
-  pub first : Rec
-  pub second : Rec
-  pub first-is : parse a ≡ some first
-  pub second-is : parse b ≡ some second
-  pub can : canJoin first second ≡ true
-  pub size-is : j .size ≡ length (bytesOf (joinedOf first second))
-  pub stands : take (j .size) after ≡ bytesOf (joinedOf first second)
-
--- R56: so it is
+-- R56: where 0 was answered, it is so
 pub join-gave : (a b before : List ℕ) (j : Joined) (after : List ℕ) → JoinsAs a b before j after → j .answer ≡ committed → JoinGave a b j after
 join-gave a b before j after p e =
     out-gave (joinedIf (parse a) (parse b)) before j after p e λ r is j-is after-is.

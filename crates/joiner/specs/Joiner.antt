@@ -1,10 +1,11 @@
 -- What the joiner answers, and what it leaves in its output.
 -- Assumes nothing: these are definitions.
 use Prim.Native.Nat.{ℕ}
+use mathlib.Core.Bool.{true}
 use mathlib.Core.Path.{_≡_}
 use mathlib.Core.Option.{Option, none, some}
 use mathlib.Core.List.{List}
-use lib.ListN.{length}
+use lib.ListN.{length, take}
 use lib.Dec.{leb}
 use Rattle.words.specs.Choice.{if_then_else_}
 use Rattle.record.specs.declared.answer.Answer.{Answer}
@@ -13,7 +14,7 @@ use Rattle.record.specs.Record.{Rec, bytesOf}
 use Rattle.record.specs.Parse.{parse}
 use Rattle.record.specs.Reader.{front}
 use Rattle.joiner.specs.declared.Joined.{Joined}
-use Rattle.joiner.specs.Joined.{joinedIf}
+use Rattle.joiner.specs.Joined.{joinedOf, canJoin, joinedIf}
 
 -- R56: what a call gives back and what it leaves in the output
 pub record JoinOutcome : Type 0 where
@@ -43,3 +44,13 @@ joinOf (some j) output =
 -- R56: what `join` promises of two records' bytes and of the output as it was: what it gives back, and the output afterwards
 abbrev pub JoinsAs : List ℕ → List ℕ → List ℕ → Joined → List ℕ → Type 0
 JoinsAs a b before j after = joinOutcome j after ≡ joinOf (joinedIf (parse a) (parse b)) before
+
+-- R56: what an answer of 0 says: the two records that the bytes are, that they can be joined, the size given, and what stands at the front
+pub record JoinGave (a b : List ℕ) (j : Joined) (after : List ℕ) : Type 0 where
+  pub first : Rec
+  pub second : Rec
+  pub first-is : parse a ≡ some first
+  pub second-is : parse b ≡ some second
+  pub can : canJoin first second ≡ true
+  pub size-is : j .size ≡ length (bytesOf (joinedOf first second))
+  pub stands : take (j .size) after ≡ bytesOf (joinedOf first second)
