@@ -1,3 +1,5 @@
+#![tactic(auto)]
+
 // FOR C AND RUST: the public functions over plain numbers and slices, each under its own name in the archive. Whatever is lent, the number
 // that is answered and every number and byte left behind are fixed. The last five need no pool; `record_abi` has them alone.
 mod numbers;

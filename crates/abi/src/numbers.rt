@@ -11,7 +11,7 @@ use record::Answer;
 const NO_NUMBER: u8 = 0;
 
 // A lookup's answer: its number, and payload and position of what was found, both 0 otherwise.
-#[derive(Drop)]
+#[derive(Clone, Copy)]
 pub struct LookupNumbers {
     pub number: u8,
     pub payload: u64,
@@ -51,7 +51,7 @@ pub const MORE: u8 = 2;
 pub const END: u8 = 3;
 
 // What happened, and the answer's number beside it.
-#[derive(Drop)]
+#[derive(Clone, Copy)]
 pub struct HappenedNumbers {
     pub happened: u8,
     pub number: u8,
@@ -82,7 +82,7 @@ pub fn of_happened(what: Happened) -> HappenedNumbers
 }
 
 // What touches a key: the number of the point, or of the scan, and 0 for the other.
-#[derive(Drop)]
+#[derive(Clone, Copy)]
 pub struct TouchNumbers {
     pub point: usize,
     pub scan: usize,
@@ -105,7 +105,7 @@ pub fn of_touch(touch: Touch) -> TouchNumbers
 }
 
 // The numbers of a reason, each 0 where it does not tell it.
-#[derive(Drop)]
+#[derive(Clone, Copy)]
 pub struct ReasonNumbers {
     pub key: u32,
     pub position: u32,

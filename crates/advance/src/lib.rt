@@ -1,3 +1,5 @@
+#![tactic(auto)]
+
 // The position of a fit pool moved on, with nothing else changed.
 ghost use Rattle.pool.specs.Image.{Arrangement, Image};
 ghost use Rattle.advance.specs.Moved.{PositionsLeft, moved_on};

@@ -3,7 +3,7 @@ ghost use Rattle.std.specs.Prelude.{◌≡◌};
 ghost use Rattle.asking.specs.Decimal.{digit_of, number_of};
 
 // The number, or that the text is none: empty, a byte that is no digit, or above the last position.
-#[derive(Drop)]
+#[derive(Clone, Copy)]
 pub enum Number {
     Nothing,
     Is(u32),

@@ -7,7 +7,7 @@ use record::{Answer, check, version_for};
 use words::{word2, word4};
 
 // What is wrong.
-#[derive(Drop)]
+#[derive(Clone, Copy)]
 pub enum Wrong {
     // They are a well-formed record.
     Nothing,
@@ -44,7 +44,7 @@ pub enum Wrong {
 }
 
 // What is wrong, the byte where it stands, counted from 0, and the number that stands there.
-#[derive(Drop)]
+#[derive(Clone, Copy)]
 pub struct Flaw {
     pub wrong: Wrong,
     pub at: usize,
@@ -52,7 +52,7 @@ pub struct Flaw {
 }
 
 // Past one or more points or scans: where the next stands, and the least key that it may begin with; or what is wrong with one of them.
-#[derive(Drop)]
+#[derive(Clone, Copy)]
 pub enum Stepped {
     Wrong(Flaw),
     On { at: usize, least: u64 },

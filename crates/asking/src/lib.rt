@@ -1,3 +1,5 @@
+#![tactic(auto)]
+
 // WHAT THE PROGRAM `explain` DOES (R52), but for its words: the number that an argument gives, the record at a position of a log, and what
 // explaining it tells. A log is read through a window that holds one record at a time, whatever the log's length.
 pub mod digits;

@@ -8,7 +8,7 @@ use meld::Status;
 use reason::{Explained, Reason, Touch};
 
 // In the order of the line; what the reason does not tell is 0.
-#[derive(Drop)]
+#[derive(Clone, Copy)]
 pub struct Numbers {
     pub position: u32,
     pub answer: u8,

@@ -13,7 +13,7 @@ use stream::fill;
 use words::word4;
 
 // How a record was passed: so many bytes are held behind it; or no record stands there, or a read failed.
-#[derive(Drop)]
+#[derive(Clone, Copy)]
 pub enum Step {
     Unread,
     Over(Cut),

@@ -5,7 +5,7 @@ use log::Cut;
 use meld::{Status, status};
 use reason::{Explained, explain};
 
-#[derive(Drop)]
+#[derive(Clone, Copy)]
 pub enum Told {
     // A read failed.
     Unread,

@@ -4,7 +4,7 @@ use record::limits::{MAX_POINTS, MAX_SCANS};
 use record::read;
 
 // What touches a key: the point's kind, 0 where it is a scan; and the keys from low to high, which are one where it is a point.
-#[derive(Drop)]
+#[derive(Clone, Copy)]
 pub struct Named {
     pub kind: u8,
     pub low: u32,

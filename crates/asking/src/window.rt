@@ -6,7 +6,7 @@ use log::{Cut, cut};
 use stream::fill;
 
 // What a window filled up shows: how many bytes are held, whether a read failed, and what stands at the front.
-#[derive(Drop)]
+#[derive(Clone, Copy)]
 pub struct Seen {
     pub held: usize,
     pub failed: bool,

@@ -1,3 +1,5 @@
+#![tactic(auto)]
+
 // Keys as bits: what stands above a height, and the height where two keys part.
 ghost use Rattle.std.specs.Prelude.{◌≡◌, ◌*◌, ◌/◌, ◌^◌, ◌≤◌};
 ghost use Rattle.bits.specs.Bits.{part_height};

@@ -1,3 +1,5 @@
+#![tactic(auto)]
+
 // THE CASES: standard input is a sequence of cases, each a length of four bytes and as many bytes, which are an input of the program
 // `verdicts`. For each it prints a line `case K`, K from 1, and then what that program prints. Cases have at most 65,536 bytes.
 ghost use Rattle.lines.specs.Opening.{New};

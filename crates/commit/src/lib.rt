@@ -1,3 +1,5 @@
+#![tactic(auto)]
+
 // What a committed record leaves in a fit pool: the position moved on, old tombstones dropped if they must, and the writes.
 mod apply;
 pub mod commit;

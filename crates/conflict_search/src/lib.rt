@@ -1,3 +1,5 @@
+#![tactic(auto)]
+
 // The conflict walk over a fit pool's tree, with its looks.
 pub mod cursor;
 mod search;
@@ -11,7 +13,7 @@ use nodes::{NO_NODE, read_header};
 use search::search;
 
 // What the search found.
-#[derive(Drop)]
+#[derive(Clone, Copy)]
 pub struct Searched {
     // The number of the leaf that is the conflict, NO_NODE if there is none.
     pub leaf: u32,

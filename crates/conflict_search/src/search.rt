@@ -6,7 +6,7 @@ use crate::cursor::{forward, touched, widen};
 use nodes::{NO_NODE, read_node};
 
 // What the search at a node found, how many nodes it looked at, and where it left the cursors.
-#[derive(Drop)]
+#[derive(Clone, Copy)]
 pub struct Progress {
     pub leaf: u32,
     pub looks: u32,

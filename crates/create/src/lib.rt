@@ -1,3 +1,5 @@
+#![tactic(auto)]
+
 // A NEW POOL: every node free, in the order of the numbers, position 0 and no key.
 ghost use Rattle.std.specs.Prelude.{◌≡◌, ◌+◌, ◌-◌, ◌*◌, ◌≤◌, ◌<◌, length};
 ghost use Rattle.words.specs.Word.{Bytes};

@@ -1,3 +1,5 @@
+#![tactic(auto)]
+
 // Old tombstones: how many there are, and dropping them.
 pub mod count;
 pub mod tombstones;

@@ -9,7 +9,7 @@ ghost use Rattle.drop.specs.Spot.{FreedNode, DropReady, Drops};
 use nodes::{FREE, Header, NO_NODE, Node, mend, read_header, read_node, write_header, write_node};
 
 // What is left of a tree, and the free nodes then.
-#[derive(Drop)]
+#[derive(Clone, Copy)]
 struct Left {
     // The root's number, NO_NODE if nothing is left.
     root: u32,

@@ -5,7 +5,7 @@ use asking::{Number, decimal};
 use libc::STDERR_FILENO;
 
 // What is asked: which arguments name the log and give the position, or name the pool and the record, and whether the answer is wanted in numbers.
-#[derive(Drop)]
+#[derive(Clone, Copy)]
 pub enum Question {
     Wrong,
     Log {

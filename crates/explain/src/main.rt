@@ -1,3 +1,5 @@
+#![tactic(auto)]
+
 // THE PROGRAM `explain` (R52): why a record gets its answer. It is asked by `LOG POSITION` for a record of a log, or by `--pool POOL RECORD` for a
 // record's bytes and a pool's; in front of either stands `--numbers` where one line of numbers is wanted. The answer goes to standard output. What is
 // wrong with the question goes to standard error, in words, and then nothing goes to standard output.

@@ -1,3 +1,5 @@
+#![tactic(auto)]
+
 // One descent: what a fit pool keeps under a key.
 ghost use Rattle.std.specs.Prelude.{◌≡◌, [], ◌∷◌, ◌+◌, ◌-◌, ◌*◌, ◌^◌, ◌≤◌, ◌<◌};
 ghost use Rattle.rules.specs.State.{Entry};
@@ -9,7 +11,7 @@ ghost use Rattle.find.specs.Found.{found_in};
 
 use nodes::{NO_NODE, Node, read_header, read_node};
 
-#[derive(Drop)]
+#[derive(Clone, Copy)]
 pub enum Found {
     // The key is not kept.
     Absent,

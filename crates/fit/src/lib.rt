@@ -1,3 +1,5 @@
+#![tactic(auto)]
+
 // FITNESS: whether any bytes are the image of a state. Nothing is asked of the bytes.
 mod free;
 mod head;

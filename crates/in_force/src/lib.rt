@@ -1,3 +1,5 @@
+#![tactic(auto)]
+
 // The record in force after a refresh: the original or the refreshed one, as a part of the slice that was lent.
 ghost use Rattle.in_force.specs.InForce.{InForce};
 

@@ -1,3 +1,5 @@
+#![tactic(auto)]
+
 // THE RECORD PART, the joiner: two records, meant for one position and the next, as one.
 // Nothing here knows of a pool or a tree.
 mod points;
@@ -18,14 +20,14 @@ use words::word4;
 use writer::put_head;
 
 // What the joiner gives back beside the output: the answer, and on 0 the joined record's size in bytes.
-#[derive(Drop)]
+#[derive(Clone, Copy)]
 pub struct Joined {
     pub answer: Answer,
     pub size: usize,
 }
 
 // What the first pass finds: how many points, scans and bytes the joined record has, if the two can be joined.
-#[derive(Drop)]
+#[derive(Clone, Copy)]
 enum Found {
     CannotJoin,
     Joined {

@@ -13,7 +13,7 @@ use writer::put_point;
 
 // The next of the joined points, its size in bytes, whether a puts or deletes its key, and what is left of each record's points then; or none, since
 // a point is not well formed or a puts or deletes a key that b names.
-#[derive(Drop)]
+#[derive(Clone, Copy)]
 pub enum PointTake {
     Bad,
     Next {
@@ -28,7 +28,7 @@ pub enum PointTake {
 }
 
 // How many points the joined record has, how many bytes they have, and where each record's points end; or none, if they cannot be joined.
-#[derive(Drop)]
+#[derive(Clone, Copy)]
 pub enum Count {
     Bad,
     Points {

@@ -9,7 +9,7 @@ use record::{End, Scan, ScanStep, scan_at};
 use writer::put_scan;
 
 // The scan with the lower low, and what is left of each record's scans then; or none, since a scan is not well formed.
-#[derive(Drop)]
+#[derive(Clone, Copy)]
 pub enum ScanTake {
     Bad,
     Next {

@@ -8,7 +8,7 @@ use conflict_search::conflict;
 use nodes::{NO_NODE, read_header};
 use record::Answer;
 
-#[derive(Drop)]
+#[derive(Clone, Copy)]
 pub struct Judged {
     // 5, 2, 1, or 0 where none of them applies.
     pub answer: Answer,
@@ -16,7 +16,7 @@ pub struct Judged {
     pub looks: u32,
 }
 
-#[derive(Drop)]
+#[derive(Clone, Copy)]
 pub struct Named {
     pub judged: Judged,
     // With 1 the number of the leaf that is the conflict, else NO_NODE.

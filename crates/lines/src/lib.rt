@@ -1,3 +1,5 @@
+#![tactic(auto)]
+
 // WHAT THE PROGRAMS PRINT: a line for each whole record of a log, and the line that ends a log. Everything goes to standard output. What
 // the lines say is computed by `open`, `feed_part` and `finish`; the printing functions only print what they are given.
 pub mod opening;

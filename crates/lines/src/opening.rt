@@ -10,7 +10,7 @@ use words::word4;
 pub const HEAD: usize = 8;
 
 // What opening an input answers, 0 or 9, and the size of the pool at the front of the bytes lent.
-#[derive(Drop)]
+#[derive(Clone, Copy)]
 pub struct Asked {
     pub answer: Answer,
     pub size: usize,

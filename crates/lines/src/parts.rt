@@ -9,7 +9,7 @@ use pages::{Happened, feed};
 use record::Answer;
 
 // How far a log is: the bytes carried, the position of the record that comes next, and whether a call has said that the log does not go on.
-#[derive(Drop)]
+#[derive(Clone, Copy)]
 pub struct Going {
     pub carried: usize,
     pub position: u64,

@@ -7,7 +7,7 @@ use log::Cut;
 use record::Answer;
 
 // What the line of a record says.
-#[derive(Drop)]
+#[derive(Clone, Copy)]
 pub struct Line {
     pub position: u64,
     pub answer: Answer,

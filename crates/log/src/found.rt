@@ -1,5 +1,5 @@
 // What stands at a place of a log.
-#[derive(Drop)]
+#[derive(Clone, Copy)]
 pub enum Cut {
     // The place is exactly the log's end.
     End,

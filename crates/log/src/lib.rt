@@ -1,3 +1,5 @@
+#![tactic(auto)]
+
 // Cutting a log: what stands at a place of it, and the part handed out there. Records stand back to back; nothing here reads one.
 ghost use Rattle.log.specs.Log.{CutIs, HandedOut};
 

@@ -1,3 +1,5 @@
+#![tactic(auto)]
+
 // The log reader: it holds the lent log and its own place in it, and hands out one record after the other. Every function over
 // it takes the reader apart and leaves the work to `log::cut` and `log::part`, on a slice and a number.
 ghost use Rattle.std.specs.Prelude.{◌≡◌};

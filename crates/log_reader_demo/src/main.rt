@@ -1,3 +1,5 @@
+#![tactic(auto)]
+
 // The two forms over structs, run: the log reader over a small log, and the writer's entry for pairs.
 // The log is the records of rows 4 and 3 of R44 back to back, and one byte that is no record. First a line with the place of a new reader
 // after one step. Then for each step from a place a line: what was found there, in words (`record`, `end`, `torn` or `impossible`), the place

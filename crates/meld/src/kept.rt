@@ -2,7 +2,7 @@
 use record::Answer;
 
 // What a lookup finds.
-#[derive(Drop)]
+#[derive(Clone, Copy)]
 pub enum Lookup {
     // 7: the pool is not fit.
     Unfit,
@@ -14,7 +14,7 @@ pub enum Lookup {
 
 // 7 and nothing but zeros for an unfit pool; else 0, with the limits N and Z, the position, how many keys are kept, and how many of these are
 // tombstones.
-#[derive(Drop)]
+#[derive(Clone, Copy)]
 pub struct Status {
     pub answer: Answer,
     pub limit: u32,

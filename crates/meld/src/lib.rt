@@ -1,3 +1,5 @@
+#![tactic(auto)]
+
 // THE PUBLIC PART: a pool is created, looked into, melded into and refreshed against. No function here asks anything of what it is lent.
 pub mod kept;
 mod lists;

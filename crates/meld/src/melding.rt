@@ -13,7 +13,7 @@ use record::limits::{MAX_POINTS, MAX_SCANS, SMALL_POINTS, SMALL_SCANS};
 use record::{Answer, is_large, read};
 
 // The verdict on a record, and how many nodes the conflict walk looked at.
-#[derive(Drop)]
+#[derive(Clone, Copy)]
 pub struct Melded {
     pub answer: Answer,
     pub looks: u32,

@@ -7,7 +7,7 @@ use words::{put4, word4};
 // The last position (R2).
 pub const LAST_POSITION: u32 = 4294967295;
 
-#[derive(Drop)]
+#[derive(Clone, Copy)]
 pub struct Header {
     // Names the layout.
     pub mark: u32,

@@ -1,3 +1,5 @@
+#![tactic(auto)]
+
 // The pool's header and nodes as records of words. docs/LAYOUT.md gives every byte.
 pub mod header;
 pub mod mending;

@@ -13,7 +13,7 @@ pub const FREE: u32 = 4294967295;
 // The oldest of a node without a tombstone at or below.
 pub const NO_TOMBSTONE: u32 = 4294967295;
 
-#[derive(Drop)]
+#[derive(Clone, Copy)]
 pub struct Node {
     // 0 in a leaf; 1 to 32 in an inner node, which splits at bit height - 1; FREE in a free node.
     pub height: u32,

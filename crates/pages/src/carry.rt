@@ -9,7 +9,7 @@ use record::limits::MAX_SIZE;
 use words::word2;
 
 // How far the record is that begins with the bytes that are in.
-#[derive(Drop)]
+#[derive(Clone, Copy)]
 pub enum Begun {
     // Its length is not in yet.
     Short,

@@ -1,3 +1,5 @@
+#![tactic(auto)]
+
 // THE LOG IN PARTS: a log is fed as it comes, page by page or byte by byte, and each record is decided once its last byte is in.
 mod carry;
 pub mod told;

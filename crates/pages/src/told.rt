@@ -2,7 +2,7 @@
 use record::Answer;
 
 // What a call has done.
-#[derive(Drop)]
+#[derive(Clone, Copy)]
 pub enum Happened {
     // A record was decided: its verdict, 6, 4, 5, 2, 1, 3 or 0.
     Decided(Answer),
@@ -15,7 +15,7 @@ pub enum Happened {
 }
 
 // What happened, the looks of the record decided (else 0), how many bytes of the part were taken, and how many are at the carry's front now.
-#[derive(Drop)]
+#[derive(Clone, Copy)]
 pub struct Fed {
     pub happened: Happened,
     pub looks: u32,

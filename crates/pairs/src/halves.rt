@@ -6,7 +6,7 @@ use record::Scan;
 use record::limits::MAX_SCANS;
 
 // The lows and the highs of up to 64 scans, from the front; 0 behind the last.
-#[derive(Drop)]
+#[derive(Clone, Copy)]
 pub struct Halves {
     pub lows: [u32; 64],
     pub highs: [u32; 64],

@@ -1,3 +1,5 @@
+#![tactic(auto)]
+
 // THE RECORD PART, the entries for scans that are lent as a list of low and high pairs. To write, the pairs are split into lows and
 // highs, and the writer's core, on two lists of numbers, does the rest; to read, see `reader`.
 mod halves;

@@ -7,7 +7,7 @@ use crate::halves::{Halves, least};
 use record::{Reading, Scan, read};
 
 // What the core gives back, and the scans that it has found.
-#[derive(Drop)]
+#[derive(Clone, Copy)]
 pub struct Found {
     pub reading: Reading,
     pub halves: Halves,

@@ -1,1 +1,3 @@
+#![tactic(auto)]
+
 // What a pool means: no functions, only definitions and the laws that the crates above cite.

@@ -1,3 +1,5 @@
+#![tactic(auto)]
+
 // Storing an entry in a fit pool, in place: one descent, at most two free nodes taken, newest and oldest mended on the way back.
 mod tree;
 mod value;

@@ -9,7 +9,7 @@ use bits::{above, cut, part_height};
 use nodes::{Node, inner, larger, mend, read_node, smaller, write_node};
 
 // Where the tree's root is afterwards, and whether its key was not there before.
-#[derive(Drop)]
+#[derive(Clone, Copy)]
 pub struct AfterPut {
     pub root: u32,
     pub new: bool,

@@ -6,7 +6,7 @@ ghost use Rattle.put.specs.Asks.{LeafOf};
 
 use nodes::{NO_TOMBSTONE, Node};
 
-#[derive(Drop)]
+#[derive(Clone, Copy)]
 pub enum Value {
     // A put: the payload.
     Live(u64),

@@ -1,3 +1,5 @@
+#![tactic(auto)]
+
 // THE REASON OF AN ANSWER: who beat a record, how far it lags, how many keys have to find room. Pool and record are only read.
 mod blame;
 mod lists;

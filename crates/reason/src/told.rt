@@ -2,7 +2,7 @@
 use record::Answer;
 
 // What of a record touches a key, by its number in the record, from 1 on.
-#[derive(Drop)]
+#[derive(Clone, Copy)]
 pub enum Touch {
     // The point with that key.
     Point(usize),
@@ -11,7 +11,7 @@ pub enum Touch {
 }
 
 // Why a record gets its answer.
-#[derive(Drop)]
+#[derive(Clone, Copy)]
 pub enum Reason {
     // The answer says it all.
     Nothing,
@@ -32,7 +32,7 @@ pub enum Reason {
 }
 
 // The answer and the looks that melding would give, and the reason.
-#[derive(Drop)]
+#[derive(Clone, Copy)]
 pub struct Explained {
     pub answer: Answer,
     pub looks: u32,

@@ -1,5 +1,5 @@
 // The answers, each number with its one name. Every function that answers and every tool that prints uses these.
-#[derive(Drop)]
+#[derive(Clone, Copy)]
 pub struct Answer {
     pub number: u8,
 }

@@ -9,21 +9,21 @@ use crate::point::{Point, Scan};
 use words::{word2, word4, word8};
 
 // What stands at a place: a point with its size in bytes, or none that is well formed.
-#[derive(Drop)]
+#[derive(Clone, Copy)]
 pub enum PointStep {
     Bad,
     Next { point: Point, size: usize },
 }
 
 // What stands at a place: a scan, or none that is well formed.
-#[derive(Drop)]
+#[derive(Clone, Copy)]
 pub enum ScanStep {
     Bad,
     Next(Scan),
 }
 
 // What stands before the points: how many points and scans there are, and where the first point stands, if all of it is right.
-#[derive(Drop)]
+#[derive(Clone, Copy)]
 pub enum Head {
     Bad,
     Counts {
@@ -34,7 +34,7 @@ pub enum Head {
 }
 
 // Where a run of points or scans ends, if each of them is well formed.
-#[derive(Drop)]
+#[derive(Clone, Copy)]
 pub enum End {
     Bad,
     At(usize),

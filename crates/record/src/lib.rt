@@ -1,3 +1,5 @@
+#![tactic(auto)]
+
 // THE RECORD PART, lower half: the names of the answers, points and scans, the check of a record's bytes, and the reader.
 // Nothing here knows of a pool or a tree.
 pub mod answer;

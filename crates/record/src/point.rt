@@ -1,7 +1,7 @@
 // What a record names: points, each a read, a put or a delete of one key, and scans of a range of keys.
 ghost use Rattle.record.specs.Record.{KindIs, KeyIs, PayloadIs};
 
-#[derive(Drop)]
+#[derive(Clone, Copy)]
 pub enum Point {
     // A read says nothing of whether the key was there.
     Read(u32),
@@ -11,7 +11,7 @@ pub enum Point {
 }
 
 // The keys from low to high, both ends with it.
-#[derive(Drop)]
+#[derive(Clone, Copy)]
 pub struct Scan {
     pub low: u32,
     pub high: u32,

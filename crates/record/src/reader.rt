@@ -10,7 +10,7 @@ use crate::checker::{Head, PointStep, ScanStep, point_at, scan_at, well_formed};
 use words::word4;
 
 // What the reader gives back beside the lists: the answer, and on 0 the snapshot and how many points and scans there are.
-#[derive(Drop)]
+#[derive(Clone, Copy)]
 pub struct Reading {
     pub answer: Answer,
     pub snapshot: u32,

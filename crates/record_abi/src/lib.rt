@@ -1,3 +1,5 @@
+#![tactic(auto)]
+
 // FOR C AND RUST, the record part alone: check, read, write, join and cut over plain numbers and slices, for host tools that need no pool. The
 // archive has these five functions and nothing of a pool; `abi` has the same five beside those of the pool, with the same promises.
 pub mod numbers;

@@ -9,7 +9,7 @@ use record::Answer;
 const NO_NUMBER: u8 = 0;
 
 // What stands at a place: its number, and the place afterwards.
-#[derive(Drop)]
+#[derive(Clone, Copy)]
 pub struct CutNumbers {
     pub number: u8,
     pub next: usize,

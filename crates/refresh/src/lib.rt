@@ -1,3 +1,5 @@
+#![tactic(auto)]
+
 // REFRESH: the same record with the pool's position as its snapshot, for a record that would not be refused here. The pool is only read.
 mod asked;
 mod front;

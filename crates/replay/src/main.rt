@@ -1,3 +1,5 @@
+#![tactic(auto)]
+
 // THE PROGRAM AT FULL SIZE (R46): as `verdicts`, for every N that a pool can have. The bytes for its pool, 4 MiB and 64, stand on the stack.
 ghost use Rattle.std.specs.Prelude.{◌≤◌, length};
 ghost use Rattle.lines.specs.Opening.{size_for};

@@ -1,3 +1,5 @@
+#![tactic(auto)]
+
 // Row 3: whether a record's writes find room, and whether old tombstones must go first.
 pub mod room;
 mod tally;

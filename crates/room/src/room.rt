@@ -8,7 +8,7 @@ use crate::tally::settle_points;
 use drop::count_old;
 use nodes::read_header;
 
-#[derive(Drop)]
+#[derive(Clone, Copy)]
 pub enum Room {
     // The kept keys and the keys written are together at most N: nothing is dropped.
     Enough,

@@ -5,7 +5,7 @@ ghost use Rattle.room.specs.Tally.{one_if_absent, one_if_revived, delete_as, Set
 
 use find::{Found, find};
 
-#[derive(Drop)]
+#[derive(Clone, Copy)]
 pub struct Tally {
     // Keys that are not kept.
     pub absent: u32,
@@ -14,7 +14,7 @@ pub struct Tally {
 }
 
 // A point, once its key was looked for.
-#[derive(Drop)]
+#[derive(Clone, Copy)]
 struct Settled {
     // Its kind; a delete that writes nothing is a read from then on.
     kind: u8,

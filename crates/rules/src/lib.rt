@@ -1,1 +1,3 @@
+#![tactic(auto)]
+
 // The rules of docs/RULES.md as definitions (specs/) and the theorems about them (proofs/). No function stands here.

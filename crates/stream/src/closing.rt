@@ -4,7 +4,7 @@ use log::Cut;
 use record::Answer;
 
 // What a run ends with: the answer to limits that cannot be, what stands behind the last record of the log, or a read that failed.
-#[derive(Drop)]
+#[derive(Clone, Copy)]
 pub enum Ending {
     Limits(Answer),
     Log(Cut),

@@ -3,7 +3,7 @@ ghost use Rattle.std.specs.Prelude.{◌≡◌, ◌≤◌, length};
 ghost use Rattle.stream.specs.Buffer.{filled_by, Refilled, FilledUp};
 
 // How many bytes are held at the front of a buffer after a read, and whether the read failed.
-#[derive(Drop)]
+#[derive(Clone, Copy)]
 pub struct Filled {
     pub held: usize,
     pub failed: bool,

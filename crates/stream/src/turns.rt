@@ -10,7 +10,7 @@ use log::Cut;
 
 // How far the program is: the bytes carried, the position of the record that comes next, whether another page may follow, whether the last
 // read failed, and whether the log does not go on.
-#[derive(Drop)]
+#[derive(Clone, Copy)]
 pub struct Progress {
     pub carried: usize,
     pub position: u64,

@@ -1,3 +1,5 @@
+#![tactic(auto)]
+
 // THE PROGRAM (R41): limits N and Z and a log on standard input, a line for each record on standard output, then `end` or 10; only 9 for bad
 // limits, an N above 1,000 or fewer than eight bytes. It reads a log of any length through one small buffer and prints as it goes.
 ghost use Rattle.std.specs.Prelude.{◌≤◌, length};

@@ -1,3 +1,5 @@
+#![tactic(auto)]
+
 // Big-endian numbers of 2, 4 and 8 bytes in lent bytes. The caller shows that they lie inside.
 ghost use Rattle.std.specs.Prelude.{◌≡◌, ◌+◌, ◌*◌, ◌/◌, ◌%◌, ◌≤◌, ◌<◌, length};
 ghost use Rattle.words.specs.Word.{word, put_word};

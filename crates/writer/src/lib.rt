@@ -1,3 +1,5 @@
+#![tactic(auto)]
+
 // THE RECORD PART, the writer: a record that lent lists name, into lent bytes.
 // Nothing here knows of a pool or a tree.
 mod rules;
@@ -13,7 +15,7 @@ pub use store::{put_head, put_point, put_scan};
 use store::{put_points, put_scans};
 
 // What the writer gives back beside the output: the answer, and on 0 the record's size in bytes.
-#[derive(Drop)]
+#[derive(Clone, Copy)]
 pub struct Written {
     pub answer: Answer,
     pub size: usize,
