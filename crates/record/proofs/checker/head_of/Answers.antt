@@ -12,10 +12,10 @@ pub returns-then-word2-bytes : goal.returns-then-word2-bytes
 returns-then-word2-bytes c = search (head_size_lem, c.if-word2-bytes.true, rules)
 
 pub overflow_cast-word2-then-bytes-eq-VERSION_2 : goal.overflow_cast-word2-then-bytes-eq-VERSION_2
-overflow_cast-word2-then-bytes-eq-VERSION_2 c = omega (arith, c.shared_slice_known-then-bytes-eq-VERSION_1-1.given 7)
+overflow_cast-word2-then-bytes-eq-VERSION_2 c = omega (arith, c.type_inv.bytes 7)
 
 pub overflow_cast-word2-then-bytes-eq-VERSION_2-2 : goal.overflow_cast-word2-then-bytes-eq-VERSION_2-2
-overflow_cast-word2-then-bytes-eq-VERSION_2-2 c = omega (arith, c.shared_slice_known-then-bytes-eq-VERSION_1-2-1.given 8)
+overflow_cast-word2-then-bytes-eq-VERSION_2-2 c = omega (arith, c.type_inv.bytes 8)
 
 pub returns-then-bytes-eq-VERSION_1 : goal.returns-then-bytes-eq-VERSION_1
 returns-then-bytes-eq-VERSION_1 c = head_1 c.args.bytes.now _ c.word2.ensures c.if-word2-bytes.false (omega (arith, c.if-bytes-lt9.false)) (omega (arith, c.if-bytes-eq-VERSION_1.true)) _ c.counted.ensures

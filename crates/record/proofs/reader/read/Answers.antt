@@ -34,6 +34,6 @@ fill_scans-requires c = record { start_in_bounds = search (checked_within, rules
 
 pub returns : goal.returns
 returns c =
-    read_whole _ _ _ _ _ _ _ c.well-formed-2.ensures _ _ _ (search rules) c.if-kinds-points.false c.if-keys-points.false c.if-payloads-points.false c.if-lows-scans.false c.if-highs-scans.false _ _ _ _ _ _ _
-    c.fill_points-at.ensures.1.0 c.fill_points-at.ensures.1.1.0 c.fill_points-at.ensures.1.1.1 c.fill_points-at.ensures.0
-    c.fill_scans.ensures.0 c.fill_scans.ensures.1 c.word4-snapshot.ensures
+    read_whole _ _ _ _ _ _ _ c.well_formed-2.ensures _ _ _ (search rules) c.if-kinds-points.false c.if-keys-points.false c.if-payloads-points.false c.if-lows-scans.false c.if-highs-scans.false _ _ _ _ _ _ _
+    c.fill_points-at.ensures.kinds_after c.fill_points-at.ensures.keys_after c.fill_points-at.ensures.payloads_after c.fill_points-at.ensures.value
+    c.fill_scans.ensures.lows_after c.fill_scans.ensures.highs_after c.word4-snapshot.ensures
