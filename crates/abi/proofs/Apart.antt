@@ -16,10 +16,10 @@ use Rattle.rules.proofs.Finding.{find_of}
 use Rattle.rules.specs.Verdict.{Verdict, committed, conflict, too_old, no_room, malformed, ahead, positions_used_up, verdict}
 use Rattle.rules.specs.Lookup.{Seen, absent, found, find, payload_at, seen, lookup}
 use Rattle.pool.specs.Image.{Arrangement, Image, Fit, state_of}
-use Rattle.log.specs.declared.found.Cut.{Cut}
-use Rattle.log.specs.declared.found.Cut.TheVariants.{End, Torn, Impossible, Record}
-use Rattle.log.specs.Log.{cut_at, part_of}
-use Rattle.log.proofs.Stands.{record_tells}
+use Rattle.record_log.specs.declared.found.Cut.{Cut}
+use Rattle.record_log.specs.declared.found.Cut.TheVariants.{End, Torn, Impossible, Record}
+use Rattle.record_log.specs.Log.{cut_at, part_of}
+use Rattle.record_log.proofs.Stands.{record_tells}
 use Rattle.record_abi.specs.Numbers.{answer}
 use Rattle.in_force.specs.InForce.{Source, original, refreshed, nothing, source_of, bytes_from}
 use Rattle.meld.specs.Lookups.{lookup_of}

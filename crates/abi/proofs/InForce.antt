@@ -10,11 +10,11 @@ use lib.ListN.{length}
 use lib.Dec.{ltb, eqb}
 use borrow.Author.Tests.{ne_eqb, eq-eqb, lt-ltb}
 use denote.Ref.{Bor}
-use Rattle.log.specs.declared.found.Cut.{Cut}
-use Rattle.log.specs.declared.found.Cut.TheVariants.{End, Torn, Impossible, Record}
-use Rattle.log.specs.Log.{cut_at, part_of}
-use Rattle.log.proofs.Stands.{record_tells}
-use Rattle.log.proofs.Walk.{sized_at, sized_range}
+use Rattle.record_log.specs.declared.found.Cut.{Cut}
+use Rattle.record_log.specs.declared.found.Cut.TheVariants.{End, Torn, Impossible, Record}
+use Rattle.record_log.specs.Log.{cut_at, part_of}
+use Rattle.record_log.proofs.Stands.{record_tells}
+use Rattle.record_log.proofs.Walk.{sized_at, sized_range}
 use Rattle.in_force.specs.InForce.{Source, original, refreshed, nothing, source_of, if_cut, bytes_from, InForce}
 use Rattle.record_abi.specs.Numbers.{answer}
 use Rattle.abi.specs.Told.{in_refreshed, InForceAs}

@@ -17,13 +17,13 @@ ghost use Rattle.abi.specs.Numbers.{melded, looked_up, status_from, fed_numbers,
 ghost use Rattle.abi.specs.Told.{LooksUpAs, InForceAs, FeedsInNumbers, ExplainsInNumbers};
 
 use joiner::join;
-use log::cut;
 use meld::{create, in_force, lookup, meld, refresh, status};
 use numbers::{of_happened, of_lookup, of_reason};
 use pages::feed;
 use reason::explain;
 use record::{Answer, check, read};
 use record_abi::numbers::of_cut;
+use record_log::cut;
 use writer::write;
 
 // Creates a pool with limits n and z in the bytes lent: 0, or 9 and no byte changes.

@@ -6,12 +6,12 @@ use Rattle.std.proofs.Common.{◌≡◌, ℕ, ◌+◌, ◌-◌, ◌≤◌, true,
 use lib.Seq.{take-append-le, drop-append-le}
 use Rattle.words.specs.Laws.{word_drop}
 use Rattle.record.specs.Answer.{committed}
-use Rattle.log.specs.declared.found.Cut.{Cut}
-use Rattle.log.specs.declared.found.Cut.TheVariants.{End, Torn, Impossible, Record}
-use Rattle.log.specs.Log.{length_at, impossible, cut_at, part_of, RecordAt, CutIs}
-use Rattle.log.proofs.Told.{cut_case}
-use Rattle.log.proofs.Stands.{end_tells, end_found, record_tells, record_found, torn_said, torn_found, impossible_said, impossible_found}
-use Rattle.log.proofs.Same.{cut_same, part_same}
+use Rattle.record_log.specs.declared.found.Cut.{Cut}
+use Rattle.record_log.specs.declared.found.Cut.TheVariants.{End, Torn, Impossible, Record}
+use Rattle.record_log.specs.Log.{length_at, impossible, cut_at, part_of, RecordAt, CutIs}
+use Rattle.record_log.proofs.Told.{cut_case}
+use Rattle.record_log.proofs.Stands.{end_tells, end_found, record_tells, record_found, torn_said, torn_found, impossible_said, impossible_found}
+use Rattle.record_log.proofs.Same.{cut_same, part_same}
 use Rattle.create.specs.Fresh.{Created}
 use Rattle.meld.specs.declared.melding.Melded.{Melded}
 use Rattle.meld.specs.Melds.{Melds}

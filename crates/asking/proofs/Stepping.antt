@@ -3,12 +3,12 @@
 use Rattle.std.proofs.Common.{◌≡◌, ℕ, ◌-◌, ◌≤◌, true, false, ◌⊎◌, List, [], ◌∷◌, length, take, sym, ap, ◌∙◌, ⊎_elim, arith, length-take-le}
 use denote.Enum.Declared.{tag_of}
 use types.Run.{OneOf}
-use Rattle.log.specs.declared.found.Cut.{Cut}
-use Rattle.log.specs.declared.found.Cut.TheVariants.{End, Torn, Impossible, Record}
-use Rattle.log.specs.Log.{cut_at}
-use Rattle.log.specs.contracts.found.Cut as T
-use Rattle.log.proofs.Told.{cut_case}
-use Rattle.log.proofs.Stands.{record_tells}
+use Rattle.record_log.specs.declared.found.Cut.{Cut}
+use Rattle.record_log.specs.declared.found.Cut.TheVariants.{End, Torn, Impossible, Record}
+use Rattle.record_log.specs.Log.{cut_at}
+use Rattle.record_log.specs.contracts.found.Cut as T
+use Rattle.record_log.proofs.Told.{cut_case}
+use Rattle.record_log.proofs.Stands.{record_tells}
 use Rattle.meld.specs.declared.melding.Melded.{Melded}
 use Rattle.meld.specs.Melds.{Melds}
 use Rattle.demands.specs.Runs.{is_over}

@@ -2,9 +2,9 @@
 -- What a read brings is not said: it is what the window holds behind the bytes held before.
 -- Assumes nothing: these are definitions.
 use Rattle.std.specs.Prelude.{◌≡◌, ℕ, ◌+◌, ◌≤◌, Bool, true, false, ◌⊎◌, List, [], ◌++◌, length, take, drop}
-use Rattle.log.specs.declared.found.Cut.{Cut}
-use Rattle.log.specs.declared.found.Cut.TheVariants.{Record}
-use Rattle.log.specs.Log.{CutIs, part_of}
+use Rattle.record_log.specs.declared.found.Cut.{Cut}
+use Rattle.record_log.specs.declared.found.Cut.TheVariants.{Record}
+use Rattle.record_log.specs.Log.{CutIs, part_of}
 use Rattle.meld.specs.declared.melding.Melded.{Melded}
 use Rattle.meld.specs.Melds.{Melds}
 use Rattle.demands.specs.Runs.{PoolAt, Whole, is_over}

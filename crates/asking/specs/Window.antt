@@ -1,7 +1,7 @@
 -- The window on a log: at its front are held the bytes from the log's place on (R52).
 -- Assumes nothing: these are definitions.
 use Rattle.std.specs.Prelude.{◌≡◌, ℕ, ◌-◌, List, length, take, drop}
-use Rattle.log.specs.Log.{CutIs}
+use Rattle.record_log.specs.Log.{CutIs}
 use Rattle.stream.specs.Buffer.{FilledUp}
 use Rattle.asking.specs.declared.window.Seen.{Seen}
 

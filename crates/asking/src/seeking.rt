@@ -6,9 +6,9 @@ ghost use Rattle.asking.specs.Asked.{AsksLog};
 use crate::telling::{Told, tell};
 use crate::window::{look, shift};
 use lines::{HEAD, open};
-use log::Cut;
 use meld::meld;
 use record::Answer;
+use record_log::Cut;
 use stream::fill;
 use words::word4;
 

@@ -1,9 +1,9 @@
 // What is told of a record that was asked for.
 ghost use Rattle.asking.specs.Told.{Tells};
 
-use log::Cut;
 use meld::{Status, status};
 use reason::{Explained, explain};
+use record_log::Cut;
 
 #[derive(Clone, Copy)]
 pub enum Told {

@@ -2,7 +2,7 @@
 ghost use Rattle.std.specs.Prelude.{◌≤◌, length};
 ghost use Rattle.asking.specs.Window.{Shifted, Looked};
 
-use log::{Cut, cut};
+use record_log::{Cut, cut};
 use stream::fill;
 
 // What a window filled up shows: how many bytes are held, whether a read failed, and what stands at the front.

@@ -7,9 +7,9 @@ ghost use Rattle.lines.specs.Parts.{LogMelded};
 
 use libc::{STDIN_FILENO, STDOUT_FILENO};
 use lines::{HEAD, feed_part, finish, open, print_answer, print_ending};
-use log::Cut;
 use record::Answer;
 use record::limits::MAX_SIZE;
+use record_log::Cut;
 use words::word4;
 
 // The largest N, as in `verdicts`, and the bytes of a pool for it.

@@ -21,9 +21,9 @@ use Rattle.pairs.specs.Pairs.{PairsWritten, OneWritten}
 use Rattle.joiner.specs.declared.Joined.{Joined}
 use Rattle.joiner.specs.Joiner.{JoinsAs}
 use Rattle.joiner.proofs.Only.{only_join}
-use Rattle.log.specs.declared.found.Cut.{Cut}
-use Rattle.log.specs.Log.{impossible, CutIs, HandedOut, SameSlice}
-use Rattle.log.proofs.Only.{only_cut, only_part}
+use Rattle.record_log.specs.declared.found.Cut.{Cut}
+use Rattle.record_log.specs.Log.{impossible, CutIs, HandedOut, SameSlice}
+use Rattle.record_log.proofs.Only.{only_cut, only_part}
 use Rattle.log_reader.specs.declared.LogReader.{LogReader}
 use Rattle.log_reader.specs.declared.Step.{Step}
 use Rattle.log_reader.specs.declared.Move.{Move}

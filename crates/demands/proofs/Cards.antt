@@ -12,11 +12,11 @@ use Rattle.words.specs.Laws.{bytes_take}
 use Rattle.record.specs.declared.answer.Answer.{Answer}
 use Rattle.record.specs.Answer.{committed}
 use Rattle.record.specs.Parse.{parse}
-use Rattle.log.specs.declared.found.Cut.{Cut}
-use Rattle.log.specs.declared.found.Cut.TheVariants.{End}
-use Rattle.log.specs.Walk.{Walks}
-use Rattle.log.proofs.Walk.{walked, walks_once}
-use Rattle.log.proofs.CutLog.{cut_log}
+use Rattle.record_log.specs.declared.found.Cut.{Cut}
+use Rattle.record_log.specs.declared.found.Cut.TheVariants.{End}
+use Rattle.record_log.specs.Walk.{Walks}
+use Rattle.record_log.proofs.Walk.{walked, walks_once}
+use Rattle.record_log.proofs.CutLog.{cut_log}
 use Rattle.rules.specs.State.{State, fresh}
 use Rattle.rules.specs.Verdict.{next}
 use Rattle.rules.specs.Log.{after}

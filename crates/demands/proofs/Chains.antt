@@ -15,9 +15,9 @@ use Rattle.record.specs.declared.point.Point.{Point}
 use Rattle.record.specs.Record.{Rec, Valid, bytes_of}
 use Rattle.record.specs.Parse.{parse}
 use Rattle.record.proofs.RoundTrip.{parse_bytes_of, valid_bytes}
-use Rattle.log.specs.declared.found.Cut.{Cut}
-use Rattle.log.specs.Walk.{Walks}
-use Rattle.log.proofs.Walk.{walked}
+use Rattle.record_log.specs.declared.found.Cut.{Cut}
+use Rattle.record_log.specs.Walk.{Walks}
+use Rattle.record_log.proofs.Walk.{walked}
 use Rattle.rules.specs.State.{State, last_position}
 use Rattle.rules.specs.Verdict.{Verdict, conflict, verdict_answer, verdict}
 use Rattle.rules.specs.Log.{state_at}

@@ -10,8 +10,8 @@ use lib.Dec.{T}
 use Rattle.words.specs.Word.{Bytes}
 use Rattle.record.specs.Answer as Names
 use Rattle.record.specs.Parse.{parse}
-use Rattle.log.specs.declared.found.Cut.{Cut}
-use Rattle.log.specs.Walk.{Walks}
+use Rattle.record_log.specs.declared.found.Cut.{Cut}
+use Rattle.record_log.specs.Walk.{Walks}
 use Rattle.rules.specs.State.{State, fresh, last_position}
 use Rattle.rules.specs.Verdict.{conflicts}
 use Rattle.rules.specs.Log.{Log, after}

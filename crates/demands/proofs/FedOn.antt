@@ -13,10 +13,10 @@ use lib.ListN.{length, take, drop, length-take, length-drop}
 use lib.Seq.{take-add, drop-drop, length-take-le, take_at, take-take, take-length}
 use borrow.Author.Tests.{eqb-true, eqb-false}
 use Rattle.record.proofs.Cases.{no_some}
-use Rattle.log.specs.declared.found.Cut.{Cut}
-use Rattle.log.specs.declared.found.Cut.TheVariants as Cuts
-use Rattle.log.specs.Log.{past_at, cut_at, part_of, CutIs}
-use Rattle.log.proofs.Stands.{end_found}
+use Rattle.record_log.specs.declared.found.Cut.{Cut}
+use Rattle.record_log.specs.declared.found.Cut.TheVariants as Cuts
+use Rattle.record_log.specs.Log.{past_at, cut_at, part_of, CutIs}
+use Rattle.record_log.proofs.Stands.{end_found}
 use Rattle.pool.specs.Image.{Fit}
 use Rattle.create.specs.Fresh.{fresh_plan}
 use Rattle.meld.specs.declared.melding.Melded.{Melded}

@@ -9,7 +9,7 @@ use native.Mathlib.Omega.{arith}
 use lib.ListN.{length, take}
 use Rattle.words.specs.Word.{Bytes}
 use Rattle.record.specs.Answer.{committed, unfit_pool, output_short}
-use Rattle.log.specs.declared.found.Cut.{Cut}
+use Rattle.record_log.specs.declared.found.Cut.{Cut}
 use Rattle.rules.specs.State.{fresh}
 use Rattle.create.specs.Fresh.{Created}
 use Rattle.meld.specs.declared.melding.Melded.{Melded}

@@ -9,10 +9,10 @@ use native.Mathlib.Omega.{arith}
 use lib.ListN.{length, take, drop, length-take, length-drop}
 use lib.Seq.{take-take}
 use Rattle.words.specs.Laws.{word_drop}
-use Rattle.log.specs.declared.found.Cut.TheVariants.{Torn, Impossible, Record}
-use Rattle.log.specs.Log.{length_at, past_at, impossible, cut_at, part_of}
-use Rattle.log.proofs.Stands.{record_found, torn_found, impossible_found}
-use Rattle.log.proofs.Lengths.{possible_tells}
+use Rattle.record_log.specs.declared.found.Cut.TheVariants.{Torn, Impossible, Record}
+use Rattle.record_log.specs.Log.{length_at, past_at, impossible, cut_at, part_of}
+use Rattle.record_log.proofs.Stands.{record_found, torn_found, impossible_found}
+use Rattle.record_log.proofs.Lengths.{possible_tells}
 use Rattle.pages.specs.Pages.{cannot_be, whole_in, record_in}
 use Rattle.pages.proofs.Rows.{cannot_tells, can_tells, whole_tells, whole_is, no_both}
 use Rattle.pages.proofs.Fronts.{length_take_two, whole_possible}

@@ -14,11 +14,11 @@ use Rattle.record.specs.Answer.{committed}
 use Rattle.record.specs.Record.{Rec, Valid, bytes_of}
 use Rattle.record.specs.Parse.{parse}
 use Rattle.record.proofs.RoundTrip.{valid_size}
-use Rattle.log.specs.declared.found.Cut.{Cut}
-use Rattle.log.specs.declared.found.Cut.TheVariants.{Record}
-use Rattle.log.specs.Log.{cut_at, part_of}
-use Rattle.log.specs.PartSized.{PartSized}
-use Rattle.log.proofs.Same.{cut_here}
+use Rattle.record_log.specs.declared.found.Cut.{Cut}
+use Rattle.record_log.specs.declared.found.Cut.TheVariants.{Record}
+use Rattle.record_log.specs.Log.{cut_at, part_of}
+use Rattle.record_log.specs.PartSized.{PartSized}
+use Rattle.record_log.proofs.Same.{cut_here}
 use Rattle.rules.specs.State.{State, last_position}
 use Rattle.rules.specs.Verdict.{Verdict, verdict_answer}
 use Rattle.rules.specs.Refresh.{with_snapshot, Refreshed, done, refused, refresh, Refreshes}

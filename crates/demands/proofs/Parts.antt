@@ -11,8 +11,8 @@ use lib.ListN.{length, take, drop, length-drop}
 use lib.Seq.{drop-drop, take-append_seam, drop-append-le}
 use Rattle.words.specs.Word.{Bytes}
 use Rattle.record.specs.Answer.{committed}
-use Rattle.log.specs.declared.found.Cut.{Cut}
-use Rattle.log.specs.Walk.{joined}
+use Rattle.record_log.specs.declared.found.Cut.{Cut}
+use Rattle.record_log.specs.Walk.{joined}
 use Rattle.create.specs.Fresh.{Created}
 use Rattle.meld.specs.declared.melding.Melded.{Melded}
 use Rattle.pages.specs.declared.told.Fed.{Fed}

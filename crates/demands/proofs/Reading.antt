@@ -8,12 +8,12 @@ use lib.ListN.{length, take, drop, length-drop}
 use denote.Ref.{Bor}
 use Rattle.words.specs.Word.{Bytes}
 use Rattle.words.specs.Laws.{bytes_drop, bytes_take}
-use Rattle.log.specs.declared.found.Cut.{Cut}
-use Rattle.log.specs.declared.found.Cut.TheVariants.{Record}
-use Rattle.log.specs.Log.{cut_at, part_of, start_of, CutIs, HandedOut}
-use Rattle.log.specs.Walk.{Walks, ends, tears, cannot_be_lem, hands}
-use Rattle.log.proofs.Told.{cut_case}
-use Rattle.log.proofs.Stands.{record_tells, end_not_record, torn_not_record, impossible_not_record, same_next}
+use Rattle.record_log.specs.declared.found.Cut.{Cut}
+use Rattle.record_log.specs.declared.found.Cut.TheVariants.{Record}
+use Rattle.record_log.specs.Log.{cut_at, part_of, start_of, CutIs, HandedOut}
+use Rattle.record_log.specs.Walk.{Walks, ends, tears, cannot_be_lem, hands}
+use Rattle.record_log.proofs.Told.{cut_case}
+use Rattle.record_log.proofs.Stands.{record_tells, end_not_record, torn_not_record, impossible_not_record, same_next}
 use Rattle.pool.specs.Image.{Fit}
 use Rattle.meld.specs.declared.melding.Melded.{Melded}
 use Rattle.meld.specs.Melds.{Melds}

@@ -14,8 +14,8 @@ use Rattle.record.specs.declared.answer.Answer.{Answer}
 use Rattle.record.specs.Answer as Names
 use Rattle.record.specs.Record.{Rec}
 use Rattle.record.specs.Parse.{parse}
-use Rattle.log.specs.declared.found.Cut.{Cut}
-use Rattle.log.specs.Walk.{Walks}
+use Rattle.record_log.specs.declared.found.Cut.{Cut}
+use Rattle.record_log.specs.Walk.{Walks}
 use Rattle.rules.specs.State.{Entry, State, fresh, last_position}
 use Rattle.rules.specs.Verdict.{Verdict, committed, conflict, too_old, no_room, malformed, ahead, positions_used_up, verdict_answer, count, verdict}
 use Rattle.rules.specs.Log.{Log, WellFormed, after, commits}

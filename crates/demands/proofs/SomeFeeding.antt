@@ -16,9 +16,9 @@ use Rattle.words.specs.Word.{Bytes}
 use Rattle.words.specs.Laws.{bytes_take, bytes_drop}
 use Rattle.record.specs.Answer.{committed, unfit_pool, output_short, torn_log, impossible_length}
 use Rattle.record.proofs.Cases.{no_some}
-use Rattle.log.specs.declared.found.Cut.{Cut}
-use Rattle.log.specs.declared.found.Cut.TheVariants as Cuts
-use Rattle.log.specs.Walk.{joined}
+use Rattle.record_log.specs.declared.found.Cut.{Cut}
+use Rattle.record_log.specs.declared.found.Cut.TheVariants as Cuts
+use Rattle.record_log.specs.Walk.{joined}
 use Rattle.pool.specs.Image.{Fit}
 use Rattle.create.specs.Fresh.{Created}
 use Rattle.pages.specs.declared.told.Happened.TheVariants.{Refused}

@@ -9,11 +9,11 @@ use lib.ListN.{drop}
 use Rattle.words.specs.Word.{Bytes}
 use Rattle.words.specs.Laws.{bytes_drop, bytes_take}
 use Rattle.record.specs.Answer.{committed}
-use Rattle.log.specs.declared.found.Cut.{Cut}
-use Rattle.log.specs.declared.found.Cut.TheVariants.{Record}
-use Rattle.log.specs.Log.{part_of, CutIs}
-use Rattle.log.specs.Walk.{Walks, ends, tears, cannot_be_lem, hands}
-use Rattle.log.proofs.Walk.{walked}
+use Rattle.record_log.specs.declared.found.Cut.{Cut}
+use Rattle.record_log.specs.declared.found.Cut.TheVariants.{Record}
+use Rattle.record_log.specs.Log.{part_of, CutIs}
+use Rattle.record_log.specs.Walk.{Walks, ends, tears, cannot_be_lem, hands}
+use Rattle.record_log.proofs.Walk.{walked}
 use Rattle.pool.specs.Image.{Fit}
 use Rattle.create.specs.Fresh.{Created}
 use Rattle.meld.specs.declared.melding.Melded.{Melded}

@@ -19,10 +19,10 @@ use Rattle.record.specs.Answer as Names
 use Rattle.record.specs.Parse.{parse}
 use Rattle.record.specs.Before.{parse_before}
 use Rattle.record.proofs.Before.{parse_as_before}
-use Rattle.log.specs.declared.found.Cut.{Cut}
-use Rattle.log.specs.declared.found.Cut.TheVariants.{End}
-use Rattle.log.specs.Walk.{Walks}
-use Rattle.log.proofs.Before.{ends_as_before}
+use Rattle.record_log.specs.declared.found.Cut.{Cut}
+use Rattle.record_log.specs.declared.found.Cut.TheVariants.{End}
+use Rattle.record_log.specs.Walk.{Walks}
+use Rattle.record_log.proofs.Before.{ends_as_before}
 use Rattle.rules.specs.Lists.{keep, distinct}
 use Rattle.rules.specs.State.{Entry, State, key_in, last_position}
 use Rattle.rules.specs.Footprint.{writes_of}

@@ -15,11 +15,11 @@ use Rattle.words.specs.Laws.{bytes_append}
 use Rattle.record.specs.Record.{Rec}
 use Rattle.record.specs.Parse.{parse}
 use Rattle.record.proofs.RoundTrip.{bytes_of_parse}
-use Rattle.log.specs.declared.found.Cut.{Cut}
-use Rattle.log.specs.declared.found.Cut.TheVariants.{End}
-use Rattle.log.specs.PartSized.{PartSized, PartsSized, no_part}
-use Rattle.log.specs.Walk.{joined}
-use Rattle.log.proofs.Walk.{joined_walks, walks_once}
+use Rattle.record_log.specs.declared.found.Cut.{Cut}
+use Rattle.record_log.specs.declared.found.Cut.TheVariants.{End}
+use Rattle.record_log.specs.PartSized.{PartSized, PartsSized, no_part}
+use Rattle.record_log.specs.Walk.{joined}
+use Rattle.record_log.proofs.Walk.{joined_walks, walks_once}
 use Rattle.rules.specs.State.{State, key_in, fresh, last_position}
 use Rattle.rules.specs.Verdict.{next}
 use Rattle.rules.specs.Log.{after}

@@ -9,13 +9,13 @@ use lib.ListN.{length, take}
 use Rattle.words.specs.Word.{Bytes}
 use Rattle.record.specs.Answer.{committed, impossible_length}
 use Rattle.record.specs.Parse.{parse}
-use Rattle.log.specs.declared.found.Cut.{Cut}
-use Rattle.log.specs.declared.found.Cut.TheVariants.{End, Impossible}
-use Rattle.log.specs.Walk.{Walks}
-use Rattle.log.specs.Before.{EndedBefore}
-use Rattle.log.proofs.Walk.{walked, walks_once}
-use Rattle.log.proofs.CutLog.{cut_never_impossible}
-use Rattle.log.proofs.Before.{ends_as_before}
+use Rattle.record_log.specs.declared.found.Cut.{Cut}
+use Rattle.record_log.specs.declared.found.Cut.TheVariants.{End, Impossible}
+use Rattle.record_log.specs.Walk.{Walks}
+use Rattle.record_log.specs.Before.{EndedBefore}
+use Rattle.record_log.proofs.Walk.{walked, walks_once}
+use Rattle.record_log.proofs.CutLog.{cut_never_impossible}
+use Rattle.record_log.proofs.Before.{ends_as_before}
 use Rattle.rules.specs.State.{fresh}
 use Rattle.rules.specs.Log.{after}
 use Rattle.create.specs.Fresh.{Created}

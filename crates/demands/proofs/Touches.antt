@@ -28,7 +28,7 @@ use Rattle.writer.specs.Writer as Writer
 use Rattle.joiner.specs.declared.Joined.{Joined}
 use Rattle.joiner.specs.Joined.{joined_if}
 use Rattle.joiner.specs.Joiner.{JoinOutcome, join_outcome, join_refused, joined_to, join_of, JoinsAs}
-use Rattle.log.specs.Log.{past_at}
+use Rattle.record_log.specs.Log.{past_at}
 use Rattle.rules.specs.State.{State}
 use Rattle.rules.specs.Verdict.{Verdict, committed, conflict, too_old, no_room, malformed, ahead, positions_used_up, verdict_answer, verdict, points_of, next, left}
 use Rattle.pool.specs.Image.{Arrangement, Image, Fit, state_of}

@@ -11,10 +11,10 @@ use Rattle.record.specs.Parse.{version_in, parse}
 use Rattle.record.specs.Before.{parse_before}
 use Rattle.record.specs.declared.point.Point.{Point}
 use Rattle.record.specs.declared.point.Point.TheVariants.{Delete}
-use Rattle.log.specs.declared.found.Cut.{Cut}
-use Rattle.log.specs.declared.found.Cut.TheVariants.{End}
-use Rattle.log.specs.Walk.{Walks}
-use Rattle.log.specs.Before.{EndedBefore}
+use Rattle.record_log.specs.declared.found.Cut.{Cut}
+use Rattle.record_log.specs.declared.found.Cut.TheVariants.{End}
+use Rattle.record_log.specs.Walk.{Walks}
+use Rattle.record_log.specs.Before.{EndedBefore}
 use Rattle.rules.specs.State.{State}
 use Rattle.rules.specs.Footprint.{live_at}
 use Rattle.rules.specs.Lookup.{find}

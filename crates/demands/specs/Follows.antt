@@ -2,9 +2,9 @@
 -- Assumes nothing: these are definitions.
 use Rattle.std.specs.Prelude.{ℕ, ◌≤◌, ◌≡◌, List, map, length, take}
 use Rattle.record.specs.Parse.{parse}
-use Rattle.log.specs.declared.found.Cut.{Cut}
-use Rattle.log.specs.declared.found.Cut.TheVariants.{End}
-use Rattle.log.specs.Walk.{Walks, CutLog}
+use Rattle.record_log.specs.declared.found.Cut.{Cut}
+use Rattle.record_log.specs.declared.found.Cut.TheVariants.{End}
+use Rattle.record_log.specs.Walk.{Walks, CutLog}
 use Rattle.rules.specs.State.{fresh}
 use Rattle.rules.specs.Log.{after, state_at}
 use Rattle.meld.specs.declared.melding.Melded.{Melded}

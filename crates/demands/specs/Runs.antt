@@ -5,9 +5,9 @@ use Rattle.std.specs.Prelude.{ℕ, ◌≡◌, List, [], ◌∷◌, length}
 use Rattle.std.specs.Borrow.{Bor}
 use Rattle.record.specs.Answer.{committed}
 use Rattle.record.specs.Parse.{parse}
-use Rattle.log.specs.declared.found.Cut.{Cut}
-use Rattle.log.specs.declared.found.Cut.TheVariants.{End, Torn, Impossible, Record}
-use Rattle.log.specs.Log.{CutIs, HandedOut}
+use Rattle.record_log.specs.declared.found.Cut.{Cut}
+use Rattle.record_log.specs.declared.found.Cut.TheVariants.{End, Torn, Impossible, Record}
+use Rattle.record_log.specs.Log.{CutIs, HandedOut}
 use Rattle.rules.specs.State.{State}
 use Rattle.rules.specs.Verdict.{next}
 use Rattle.pool.specs.Image.{Arrangement, Image, state_of}

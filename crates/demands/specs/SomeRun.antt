@@ -2,7 +2,7 @@
 -- Assumes nothing: these are definitions.
 use Rattle.std.specs.Prelude.{ℕ, Bool, List}
 use Rattle.words.specs.Word.{Bytes}
-use Rattle.log.specs.declared.found.Cut.{Cut}
+use Rattle.record_log.specs.declared.found.Cut.{Cut}
 use Rattle.meld.specs.declared.melding.Melded.{Melded}
 use Rattle.meld.specs.Melds.{Melds}
 use Rattle.pages.specs.declared.told.Fed.{Fed}

@@ -1,9 +1,9 @@
 -- The records of a table of rows as one log of bytes, melded by a card (R44, R55).
 -- Assumes nothing: these are definitions.
 use Rattle.std.specs.Prelude.{ℕ, ◌+◌, ◌≡◌, List, [], ◌∷◌, map}
-use Rattle.log.specs.declared.found.Cut.{Cut}
-use Rattle.log.specs.declared.found.Cut.TheVariants.{End}
-use Rattle.log.specs.Walk.{joined}
+use Rattle.record_log.specs.declared.found.Cut.{Cut}
+use Rattle.record_log.specs.declared.found.Cut.TheVariants.{End}
+use Rattle.record_log.specs.Walk.{joined}
 use Rattle.rules.specs.State.{State, key_in}
 use Rattle.rules.specs.Table.{Row, bytes_in, Line, line_of}
 use Rattle.meld.specs.declared.melding.Melded.{Melded}

@@ -56,7 +56,7 @@ fn explain_log(pool: &mut [u8], file: usize, place: usize, numbers: bool)
     }
     let mut window = [0u8; MAX_SIZE];
     let told = ask_log(log, pool, &mut window, position - 1);
-    if !print_told(told, log::part(&window, 0), numbers) {
+    if !print_told(told, record_log::part(&window, 0), numbers) {
         say_failed(&path[..n]);
     }
 }

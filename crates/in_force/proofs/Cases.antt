@@ -12,12 +12,12 @@ use denote.Ref.{Bor}
 use denote.Enum.Declared.{tag_of}
 use types.Run.{OneOf}
 use Rattle.record.specs.declared.answer.Answer.{Answer}
-use Rattle.log.specs.declared.found.Cut.{Cut}
-use Rattle.log.specs.declared.found.Cut.TheVariants.{End, Torn, Impossible, Record}
-use Rattle.log.specs.Log.{cut_at, part_of, CutIs}
-use Rattle.log.specs.contracts.found.Cut as T
-use Rattle.log.proofs.Told.{cut_case}
-use Rattle.log.proofs.Stands.{record_tells}
+use Rattle.record_log.specs.declared.found.Cut.{Cut}
+use Rattle.record_log.specs.declared.found.Cut.TheVariants.{End, Torn, Impossible, Record}
+use Rattle.record_log.specs.Log.{cut_at, part_of, CutIs}
+use Rattle.record_log.specs.contracts.found.Cut as T
+use Rattle.record_log.proofs.Told.{cut_case}
+use Rattle.record_log.proofs.Stands.{record_tells}
 use Rattle.in_force.specs.InForce.{Source, source_of, if_cut, bytes_from, InForce}
 
 module _ (a : Answer) (o b : Bor (List ℕ)) where

@@ -5,7 +5,7 @@ use mathlib.Core.List.{List}
 use Prim.Native.Nat.{ℕ}
 use denote.Ref.{Bor}
 use Rattle.record.specs.declared.answer.Answer.{Answer}
-use Rattle.log.specs.Log.{SameSlice}
+use Rattle.record_log.specs.Log.{SameSlice}
 use Rattle.in_force.specs.InForce.{InForce}
 
 pub in_force_only : (a : Answer) (o b r q : Bor (List ℕ)) → InForce a o b r → InForce a o b q → SameSlice r q

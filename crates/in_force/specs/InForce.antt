@@ -5,9 +5,9 @@ use Rattle.std.specs.Borrow.{Bor}
 use Rattle.words.specs.Choice.{if◌then◌else◌}
 use Rattle.record.specs.declared.answer.Answer.{Answer}
 use Rattle.record.specs.Answer.{committed, ahead}
-use Rattle.log.specs.declared.found.Cut.{Cut}
-use Rattle.log.specs.declared.found.Cut.TheVariants.{End, Torn, Impossible, Record}
-use Rattle.log.specs.Log.{cut_at, part_of}
+use Rattle.record_log.specs.declared.found.Cut.{Cut}
+use Rattle.record_log.specs.declared.found.Cut.TheVariants.{End, Torn, Impossible, Record}
+use Rattle.record_log.specs.Log.{cut_at, part_of}
 
 -- R39: which of the two lent slices the record in force is a part of
 pub data Source : Type 0 where

@@ -3,8 +3,8 @@
 // The record in force after a refresh: the original or the refreshed one, as a part of the slice that was lent.
 ghost use Rattle.in_force.specs.InForce.{InForce};
 
-use log::{Cut, cut};
 use record::Answer;
+use record_log::{Cut, cut};
 
 // The original after 5; after 0 the record at the front of the refreshed buffer if the log rule finds one there;
 // in every other case the empty part at the original's start.

@@ -3,8 +3,8 @@
 use Rattle.std.proofs.Common.{◌≡◌, Bool, sym, ap, ◌∙◌, eq-eqb, ne_eqb}
 use Rattle.words.specs.Choice.{if◌then◌else◌}
 use Rattle.record.specs.declared.answer.Answer.{Answer}
-use Rattle.log.specs.declared.found.Cut.{Cut}
-use Rattle.log.specs.declared.found.Cut.TheVariants as Cuts
+use Rattle.record_log.specs.declared.found.Cut.{Cut}
+use Rattle.record_log.specs.declared.found.Cut.TheVariants as Cuts
 use Rattle.pages.specs.declared.told.Happened.{Happened}
 use Rattle.pages.specs.declared.told.Happened.TheVariants.{Refused}
 use Rattle.lines.specs.Parts.{refused_by, closed_by, ending_answer}

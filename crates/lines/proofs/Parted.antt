@@ -5,9 +5,9 @@ use Rattle.std.proofs.Common.{◌≡◌, ℕ, ◌+◌, ◌≤◌, Bool, true, fa
 use mathlib.Core.Option.{Option, none, some}
 use Rattle.record.specs.Answer.{committed, torn_log, impossible_length}
 use Rattle.record.proofs.Cases.{by_case, no_some}
-use Rattle.log.specs.declared.found.Cut.{Cut}
-use Rattle.log.specs.declared.found.Cut.TheVariants as Cuts
-use Rattle.log.specs.Walk.{joined}
+use Rattle.record_log.specs.declared.found.Cut.{Cut}
+use Rattle.record_log.specs.declared.found.Cut.TheVariants as Cuts
+use Rattle.record_log.specs.Walk.{joined}
 use Rattle.pool.specs.Image.{Fit}
 use Rattle.create.specs.Fresh.{Created}
 use Rattle.pages.specs.declared.told.Happened.{Happened}

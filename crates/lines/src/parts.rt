@@ -4,9 +4,9 @@ ghost use Rattle.demands.specs.Feeding.{verdict_in};
 ghost use Rattle.lines.specs.Parts.{on_by, goes_on_by, refused_by, closed_by, PartFed, Finishes};
 
 use crate::printing::{Line, print_line};
-use log::Cut;
 use pages::{Happened, feed};
 use record::Answer;
+use record_log::Cut;
 
 // How far a log is: the bytes carried, the position of the record that comes next, and whether a call has said that the log does not go on.
 #[derive(Clone, Copy)]

@@ -3,8 +3,8 @@ ghost use Rattle.std.specs.Prelude.{◌≡◌};
 ghost use Rattle.lines.specs.Parts.{ending_answer};
 
 use libc::STDOUT_FILENO;
-use log::Cut;
 use record::Answer;
+use record_log::Cut;
 
 // What the line of a record says.
 #[derive(Clone, Copy)]

@@ -5,8 +5,8 @@ use mathlib.Core.Path.{◌≡◌, sym, ◌∙◌}
 use Prim.Native.Nat.{ℕ}
 use mathlib.Core.List.{List}
 use denote.Ref.{Bor}
-use Rattle.log.specs.Log.{HandedOut, SameSlice}
-use Rattle.log.proofs.Only.{only_cut, only_part}
+use Rattle.record_log.specs.Log.{HandedOut, SameSlice}
+use Rattle.record_log.proofs.Only.{only_cut, only_part}
 use Rattle.log_reader.specs.declared.LogReader.{LogReader}
 use Rattle.log_reader.specs.declared.Step.{Step}
 use Rattle.log_reader.specs.declared.Move.{Move}

@@ -1,9 +1,9 @@
 -- The log reader (R15): it holds the lent log and its own place in it. What its functions promise, in the words of
--- the log (Log.antt of `log`): what stands at a place, the part handed out there, and the place afterwards.
+-- the log (Log.antt of `record_log`): what stands at a place, the part handed out there, and the place afterwards.
 -- Assumes nothing: these are definitions.
 use Rattle.std.specs.Prelude.{ℕ, ◌≡◌, List}
 use Rattle.std.specs.Borrow.{Bor}
-use Rattle.log.specs.Log.{CutIs, HandedOut, SameSlice, cut_at, place_after}
+use Rattle.record_log.specs.Log.{CutIs, HandedOut, SameSlice, cut_at, place_after}
 use Rattle.log_reader.specs.declared.LogReader.{LogReader}
 use Rattle.log_reader.specs.declared.Step.{Step}
 use Rattle.log_reader.specs.declared.Move.{Move}

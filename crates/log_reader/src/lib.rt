@@ -1,12 +1,12 @@
 #![tactic(auto)]
 
 // The log reader: it holds the lent log and its own place in it, and hands out one record after the other. Every function over
-// it takes the reader apart and leaves the work to `log::cut` and `log::part`, on a slice and a number.
+// it takes the reader apart and leaves the work to `record_log::cut` and `record_log::part`, on a slice and a number.
 ghost use Rattle.std.specs.Prelude.{◌≡◌};
-ghost use Rattle.log.specs.Log.{place_after, HandedOut};
+ghost use Rattle.record_log.specs.Log.{place_after, HandedOut};
 ghost use Rattle.log_reader.specs.LogReader.{Opened, PlaceIs, Stepped, Moved};
 
-use log::{Cut, cut, part};
+use record_log::{Cut, cut, part};
 
 #[derive(Drop)]
 pub struct LogReader<'a> {

@@ -6,11 +6,11 @@
 // afterwards, and how many bytes were handed out. Then the second of the two records is written, with its scan as a pair, and printed: answer, size,
 // and the bytes.
 ghost use Rattle.std.specs.Prelude.{◌≡◌};
-ghost use Rattle.log.specs.Log.{cut_at, place_after};
+ghost use Rattle.record_log.specs.Log.{cut_at, place_after};
 
-use log::Cut;
 use log_reader::LogReader;
 use record::Scan;
+use record_log::Cut;
 
 // Prints the word that a line begins with.
 fn print_found(found: Cut) -> bool {

@@ -15,7 +15,7 @@ use Rattle.words.specs.Choice.{if◌then◌else◌}
 use Rattle.record.specs.Answer.{output_short, impossible_length}
 use Rattle.record.specs.Reader.{front}
 use Rattle.record.proofs.Cases.{by_case}
-use Rattle.log.specs.Log.{length_at, past_at, impossible}
+use Rattle.record_log.specs.Log.{length_at, past_at, impossible}
 use Rattle.pages.specs.declared.told.Happened.TheVariants.{Refused, More}
 use Rattle.pages.specs.declared.told.Fed.{Fed}
 use Rattle.pages.specs.Pages.{carry_size, may_carry, bytes_in, cannot_be, whole_in, record_in, feed_row, undecided, refusing, is_unfit}

@@ -11,7 +11,7 @@ use Rattle.words.specs.Laws.{bytes_take, bytes_drop, bytes_append}
 use Rattle.words.specs.Choice.{if◌then◌else◌}
 use Rattle.record.specs.Reader.{front}
 use Rattle.record.proofs.Cases.{by_case}
-use Rattle.log.specs.Log.{past_at}
+use Rattle.record_log.specs.Log.{past_at}
 use Rattle.pages.specs.declared.told.Fed.{Fed}
 use Rattle.pages.specs.Pages.{bytes_in, record_in, feed_row, is_unfit}
 use Rattle.pages.specs.Pages.{FeedRow, wrong_carry, stuck, cannot_go_on, record_whole, goes_on, at_end, torn, FeedsAs, Feeds}

@@ -11,7 +11,7 @@ use Rattle.words.specs.Choice.{if◌then◌else◌}
 use Rattle.record.specs.Answer.{unfit_pool}
 use Rattle.record.specs.Parse.{parse}
 use Rattle.record.specs.Reader.{front}
-use Rattle.log.specs.Log.{past_at}
+use Rattle.record_log.specs.Log.{past_at}
 use Rattle.rules.specs.Verdict.{Verdict, committed, conflict, too_old, no_room, malformed, ahead, positions_used_up, verdict_answer, verdict}
 use Rattle.pool.specs.Image.{Fit, state_of}
 use Rattle.meld.specs.declared.melding.Melded.{Melded}

@@ -12,7 +12,7 @@ use lib.Seq.{length-take-le, take-append-add, take_at}
 use Rattle.words.specs.Choice.{if◌then◌else◌}
 use Rattle.record.specs.Answer.{unfit_pool}
 use Rattle.record.specs.Reader.{front}
-use Rattle.log.specs.Log.{past_at}
+use Rattle.record_log.specs.Log.{past_at}
 use Rattle.pool.specs.Image.{Fit}
 use Rattle.fit.specs.Whole.{Decides}
 use Rattle.meld.specs.declared.melding.Melded.{Melded}

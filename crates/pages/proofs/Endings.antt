@@ -10,7 +10,7 @@ use lib.ListN.{length, take, drop}
 use lib.Seq.{length-take-le, take_at}
 use Rattle.record.specs.Answer.{torn_log, impossible_length}
 use Rattle.record.proofs.Cases.{by_case}
-use Rattle.log.specs.Log.{impossible}
+use Rattle.record_log.specs.Log.{impossible}
 use Rattle.pages.specs.declared.told.Happened.TheVariants.{Refused}
 use Rattle.pages.specs.declared.told.Fed.{Fed}
 use Rattle.pages.specs.Pages.{bytes_in, cannot_be, feed_row, refusing, is_unfit}

@@ -12,8 +12,8 @@ use lib.ListN.{length, take, drop, length-append, length-drop, get_or-append}
 use lib.Seq.{get_or-take, length-take-le}
 use Rattle.words.specs.Laws.{word_same}
 use Rattle.record.specs.Reader.{front}
-use Rattle.log.specs.Log.{length_at, past_at, impossible}
-use Rattle.log.proofs.Lengths.{possible_tells}
+use Rattle.record_log.specs.Log.{length_at, past_at, impossible}
+use Rattle.record_log.proofs.Lengths.{possible_tells}
 use Rattle.pages.specs.Pages.{carry_size, may_carry, bytes_in, cannot_be, whole_in, record_in}
 use Rattle.pages.proofs.Rows.{cannot_is, can_tells, cannot_tells, whole_tells, not_whole_tells, may_tells, may_split, no_both}
 

@@ -12,7 +12,7 @@ use lib.Seq.{length-take-le, get_or-take, get_or-append-add}
 use Rattle.words.specs.Choice.{if◌then◌else◌}
 use Rattle.words.specs.Word.{word}
 use Rattle.words.specs.Laws.{word_same}
-use Rattle.log.specs.Log.{length_at, past_at, impossible}
+use Rattle.record_log.specs.Log.{length_at, past_at, impossible}
 use Rattle.pages.specs.declared.carry.Begun.{Begun}
 use Rattle.pages.specs.declared.carry.Begun.TheVariants.{Short, Impossible, Sized}
 use Rattle.pages.specs.Pages.{carry_size, may_carry, bytes_in}

@@ -12,7 +12,7 @@ use lib.ListN.{length, take}
 use borrow.Author.Tests.{ltb-true, ltb-false, eqb-true, lt-ltb, le-ltb, eq-eqb}
 use Rattle.words.specs.Choice.{if◌then◌else◌}
 use Rattle.record.proofs.Cases.{by_case}
-use Rattle.log.specs.Log.{length_at, past_at, impossible}
+use Rattle.record_log.specs.Log.{length_at, past_at, impossible}
 use Rattle.pages.specs.Pages.{FeedRow, wrong_carry, stuck, cannot_go_on, record_whole, goes_on, at_end, torn}
 use Rattle.pages.specs.Pages.{carry_size, may_carry, bytes_in, cannot_be, whole_in, feed_row}
 

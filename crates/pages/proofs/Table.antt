@@ -15,8 +15,8 @@ use Rattle.words.specs.Choice.{if◌then◌else◌}
 use Rattle.record.specs.Answer.{output_short, impossible_length}
 use Rattle.record.specs.Reader.{front}
 use Rattle.record.proofs.Cases.{by_case}
-use Rattle.log.specs.Log.{length_at, past_at, impossible}
-use Rattle.log.proofs.Lengths.{possible_tells}
+use Rattle.record_log.specs.Log.{length_at, past_at, impossible}
+use Rattle.record_log.proofs.Lengths.{possible_tells}
 use Rattle.pages.specs.declared.carry.Begun.{Begun}
 use Rattle.pages.specs.declared.carry.Begun.TheVariants.{Short, Impossible, Sized}
 use Rattle.pages.specs.declared.told.Happened.TheVariants.{Refused}

@@ -5,7 +5,7 @@ use Rattle.words.specs.Choice.{if◌then◌else◌}
 use Rattle.record.specs.declared.answer.Answer.{Answer}
 use Rattle.record.specs.Answer.{unfit_pool, output_short, torn_log, impossible_length}
 use Rattle.record.specs.Reader.{front}
-use Rattle.log.specs.Log.{max_length, length_at, past_at, impossible}
+use Rattle.record_log.specs.Log.{max_length, length_at, past_at, impossible}
 use Rattle.meld.specs.declared.melding.Melded.{Melded}
 use Rattle.meld.specs.Melds.{Melds}
 use Rattle.pages.specs.declared.told.Happened.{Happened}

@@ -4,7 +4,7 @@ use Rattle.std.specs.Prelude.{ℕ, ◌+◌, ◌-◌, ◌≤◌, ◌≡◌, Bool,
 use Rattle.words.specs.Choice.{if◌then◌else◌}
 use Rattle.record.specs.Answer.{impossible_length}
 use Rattle.record.specs.Reader.{front}
-use Rattle.log.specs.Log.{length_at, past_at, impossible}
+use Rattle.record_log.specs.Log.{length_at, past_at, impossible}
 use Rattle.meld.specs.declared.melding.Melded.{Melded}
 use Rattle.pages.specs.declared.carry.Begun.{Begun}
 use Rattle.pages.specs.declared.carry.Begun.TheVariants.{Short, Impossible, Sized}

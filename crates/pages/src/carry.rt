@@ -4,8 +4,8 @@ ghost use Rattle.record.specs.Reader.{front};
 ghost use Rattle.pages.specs.Pages.{carry_size, may_carry, bytes_in};
 ghost use Rattle.pages.specs.Steps.{sized_by, begun_in};
 
-use log::is_impossible;
 use record::limits::MAX_SIZE;
+use record_log::is_impossible;
 use words::word2;
 
 // How far the record is that begins with the bytes that are in.

@@ -4,10 +4,10 @@ use Prim.Native.Nat.{ℕ}
 use mathlib.Core.Path.{◌≡◌, refl, sym, ap, ◌∙◌}
 use mathlib.Core.List.{List}
 use native.Mathlib.Omega.{arith}
-use Rattle.log.specs.declared.found.Cut.{Cut}
-use Rattle.log.specs.declared.found.Cut.TheVariants.{End, Torn, Impossible, Record}
-use Rattle.log.specs.Log.{cut_at}
-use Rattle.log.proofs.Stands.{record_tells}
+use Rattle.record_log.specs.declared.found.Cut.{Cut}
+use Rattle.record_log.specs.declared.found.Cut.TheVariants.{End, Torn, Impossible, Record}
+use Rattle.record_log.specs.Log.{cut_at}
+use Rattle.record_log.proofs.Stands.{record_tells}
 use Rattle.record_abi.specs.declared.numbers.CutNumbers.{CutNumbers}
 use Rattle.record_abi.specs.Numbers.{found, of_cut}
 use Rattle.record_abi.specs.Told.{CutsAs, CutTells}

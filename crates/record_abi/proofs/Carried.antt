@@ -3,8 +3,8 @@
 use Prim.Native.Nat.{ℕ}
 use mathlib.Core.Path.{◌≡◌, sym, ap, ◌∙◌}
 use mathlib.Core.List.{List}
-use Rattle.log.specs.declared.found.Cut.{Cut}
-use Rattle.log.specs.Log.{cut_at, CutTold, CutIs}
+use Rattle.record_log.specs.declared.found.Cut.{Cut}
+use Rattle.record_log.specs.Log.{cut_at, CutTold, CutIs}
 use Rattle.record_abi.specs.declared.numbers.CutNumbers.{CutNumbers}
 use Rattle.record_abi.specs.Numbers.{cut_numbers, of_cut}
 

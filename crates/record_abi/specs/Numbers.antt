@@ -7,8 +7,8 @@ use Rattle.record.specs.declared.answer.Answer.{Answer}
 use Rattle.record.specs.declared.reader.Reading.{Reading}
 use Rattle.writer.specs.declared.Written.{Written}
 use Rattle.joiner.specs.declared.Joined.{Joined}
-use Rattle.log.specs.declared.found.Cut.{Cut}
-use Rattle.log.specs.Log.{CutTold, cut_told}
+use Rattle.record_log.specs.declared.found.Cut.{Cut}
+use Rattle.record_log.specs.Log.{CutTold, cut_told}
 use Rattle.record_abi.specs.declared.numbers.CutNumbers.{CutNumbers}
 
 -- the answer with a number (R3)

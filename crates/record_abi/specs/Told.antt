@@ -2,8 +2,8 @@
 -- Assumes nothing: these are definitions.
 use Rattle.std.specs.Prelude.{ℕ, ◌<◌, ◌≡◌, List}
 use Rattle.record.specs.Parse.{CheckIs}
-use Rattle.log.specs.declared.found.Cut.TheVariants.{End, Torn, Impossible, Record}
-use Rattle.log.specs.Log.{cut_at}
+use Rattle.record_log.specs.declared.found.Cut.TheVariants.{End, Torn, Impossible, Record}
+use Rattle.record_log.specs.Log.{cut_at}
 use Rattle.record_abi.specs.declared.numbers.CutNumbers.{CutNumbers}
 use Rattle.record_abi.specs.Numbers.{answer, of_cut}
 

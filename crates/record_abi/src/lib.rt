@@ -11,9 +11,9 @@ ghost use Rattle.record_abi.specs.Numbers.{reading, written, joined, found};
 ghost use Rattle.record_abi.specs.Told.{ChecksAs, CutsAs};
 
 use joiner::join;
-use log::cut;
 use numbers::of_cut;
 use record::{check, read};
+use record_log::cut;
 use writer::write;
 
 // 0 where the bytes lent are exactly one well-formed record, else 4.

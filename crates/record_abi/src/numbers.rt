@@ -2,8 +2,8 @@
 ghost use Rattle.std.specs.Prelude.{◌≡◌};
 ghost use Rattle.record_abi.specs.Numbers.{of_cut};
 
-use log::Cut;
 use record::Answer;
+use record_log::Cut;
 
 // The number of a case to which the rules give none.
 const NO_NUMBER: u8 = 0;

@@ -37,12 +37,14 @@ without k (x ∷ xs) = if eqb x k then xs else x ∷ without k xs
 -- it is shorter, if the number was there
 without_length : (k : ℕ) (xs : List ℕ) → Mem k xs → suc (length (without k xs)) ≤ length xs
 unfolding without
+without_length k [] x' = elim x' [ ]
 without_length k (x ∷ xs) (here p) = rw (is_true (eqb x k) (yes_eq (sym p))) (omega arith)
 without_length k (x ∷ xs) (there m) = if_ind (λ (l : List ℕ). suc (length l) ≤ suc (length xs)) (eqb x k) (λ _. omega arith) (λ _. omega (arith, without_length k xs m))
 
 -- any other number is still there
 without_mem : (k : ℕ) (xs : List ℕ) {j : ℕ} → (j ≡ k → ⊥) → Mem j xs → Mem j (without k xs)
 unfolding without
+without_mem k [] {j = j} n x'' = elim x'' [ ]
 without_mem k (x ∷ xs) {j} n (here p) = if_ind (λ (l : List ℕ). Mem j l) (eqb x k) (λ t. absurd (n (p ∙ eqb→eq x k t))) (λ _. here p)
 without_mem k (x ∷ xs) {j} n (there m) = if_ind (λ (l : List ℕ). Mem j l) (eqb x k) (λ _. m) (λ _. there (without_mem k xs n m))
 
@@ -71,6 +73,7 @@ held {j} ks t = let x = of_any (eqb j) ks t in subst (λ (i : ℕ). Mem i ks) (s
 
 -- what was there is among the distinct
 pub of_distinct : (ks : List ℕ) {k : ℕ} → Mem k ks → Mem k (distinct ks)
+of_distinct [] {k = k} x' = elim x' [ ]
 of_distinct (j ∷ ks) {k} (here e) = if_ind (λ (l : List ℕ). Mem k l) (any (eqb j) ks) (λ t. of_distinct ks (subst (λ (i : ℕ). Mem i ks) (sym e) (held ks t))) (λ _. here e)
 of_distinct (j ∷ ks) {k} (there m) = if_ind (λ (l : List ℕ). Mem k l) (any (eqb j) ks) (λ _. of_distinct ks m) (λ _. there (of_distinct ks m))
 
@@ -83,7 +86,7 @@ distinct_once (j ∷ ks) = if_ind NoneTwice (any (eqb j) ks) (λ _. distinct_onc
 -- STORED ENTRIES
 
 -- where keys rise none stands twice
-pub rising_once : {low top : ℕ} {es : List Entry} → Rising top low es → NoneTwice (map key_in es)
+pub rising_once : {top low : ℕ} {es : List Entry} → Rising top low es → NoneTwice (map key_in es)
 rising_once (end h) = nil
 rising_once (link {e = e} {es = es} h r) = cons (λ (m : Mem e.key (map key_in es)). let x = of_map key_in es m in let k = rising_mem r x.1 in omega (arith, x.2)) (rising_once r)
 
@@ -101,6 +104,7 @@ store_all_keys (w ∷ ws) es {k} m =
 -- the keys of the writes are there
 store_all_new : (ws es : List Entry) {k : ℕ} → Mem k (map key_in ws) → Mem k (map key_in (store_all ws es))
 unfolding store_all
+store_all_new [] es {k = k} x' = elim x' [ ]
 store_all_new (w ∷ ws) es {k} (here e) = store_all_keys ws (store w es) (subst (λ (j : ℕ). Mem j (map key_in (store w es))) (sym e) (mem_map key_in (store_self w es)))
 store_all_new (w ∷ ws) es (there m) = store_all_new ws (store w es) m
 

@@ -20,12 +20,13 @@ use Rattle.rules.proofs.Sorted.{rising_mem}
 -- FINDING
 
 -- below the first key there is none
-pub find_none : (k : ℕ) {lo hi : ℕ} {es : List Entry} → k < lo → Rising hi lo es → find k es ≡ none
+pub find_none : (k : ℕ) {hi lo : ℕ} {es : List Entry} → k < lo → Rising hi lo es → find k es ≡ none
 find_none k l (end h) = refl
 find_none k l (link {e = e} h r) = rw (no_eq {a = e.key} {b = k} (λ q. omega arith)) (find_none k (omega arith) r)
 
 -- what is there is found
-pub find_mem : {lo hi : ℕ} {es : List Entry} {e : Entry} → Rising hi lo es → Mem e es → find e.key es ≡ some e
+pub find_mem : {hi lo : ℕ} {es : List Entry} {e : Entry} → Rising hi lo es → Mem e es → find e.key es ≡ some e
+find_mem {hi = hi} {e = e} (end {low = low} _) x5 = elim x5 [ ]
 find_mem {e = e} (link {e = x} h r) (here p) = rw (is_true (eqb x.key e.key) (yes_eq (ap (λ (y : Entry). y.key) (sym p)))) (ap some (sym p))
 find_mem {e = e} (link {e = x} h r) (there m) = let k = rising_mem r m in rw (no_eq {a = x.key} {b = e.key} (λ q. omega arith)) (find_mem r m)
 

@@ -37,7 +37,7 @@ dead w none b t = refl
 dead w (some x) b t = absurd t
 
 -- a drop of old tombstones changes nothing that is seen
-keep_seen : (k z v : ℕ) {lo hi : ℕ} {es : List Entry} → Rising hi lo es → seen (find k (keep (young z v) es)) ≡ seen (find k es)
+keep_seen : (k z v : ℕ) {hi lo : ℕ} {es : List Entry} → Rising hi lo es → seen (find k (keep (young z v) es)) ≡ seen (find k es)
 unfolding young
 keep_seen k z v (end h) = refl
 keep_seen k z v (link {e = e} {es = es} h r) = ⊎_elim

@@ -111,7 +111,7 @@ lawful_next {S} l m v = if_ind (λ a. Lawful (left S (points_of m) a)) (leb last
 pub lawful_after : {S : State} → Lawful S → (ms : Log) → WellFormed ms → Lawful (after S ms)
 unfolding after
 lawful_after l [] w = l
-lawful_after l (m ∷ ms) w = lawful_after (lawful_next l m (λ r e. w r (here (sym e)))) ms (λ r i. w r (there i))
+lawful_after {S} l (m ∷ ms) w = lawful_after {S = next S m} (lawful_next l m (λ r e. w r (here (sym e)))) ms (λ r i. w r (there i))
 
 -- every state of a log from a fresh pool is lawful
 pub lawful_log : {N Z : ℕ} → (1 ≤ N) × (N ≤ 65536) → (1 ≤ Z) × (Z ≤ 4096) → (log : Log) → WellFormed log → Lawful (after (fresh N Z) log)

@@ -64,6 +64,7 @@ marks_all lo hi (k ∷ ks) = let h : within lo hi k ≤ 1 = if_ind (λ (n : ℕ)
 
 -- a mark inside counts
 pub marks_mem : (lo hi : ℕ) (ks : List ℕ) {k : ℕ} → Mem k ks → lo ≤ k → k < hi → 1 ≤ marks lo hi ks
+marks_mem lo hi [] {k = k} x3 a b = elim x3 [ ]
 marks_mem lo hi (j ∷ ks) (here p) a b = omega (arith, within_in lo hi j (omega arith) (omega arith))
 marks_mem lo hi (j ∷ ks) (there m) a b = omega (arith, marks_mem lo hi ks m a b)
 
@@ -123,5 +124,6 @@ marks_marked r ok c m = ⊎_elim
 
 -- the scans of a well-formed record have low ≤ high
 pub apart_ordered : (low : ℕ) (cs : List Scan) → Apart low cs → (c : Scan) → Mem c cs → c.low ≤ c.high
+apart_ordered low [] a c x'' = elim x'' [ ]
 apart_ordered low (d ∷ cs) a c (here p) = omega (arith, a.1, ap low_in p, ap high_in p)
 apart_ordered low (d ∷ cs) a c (there m) = apart_ordered (d.high + 1) cs a.3 c m

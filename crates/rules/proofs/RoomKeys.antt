@@ -47,6 +47,7 @@ written_by S ps m = let x = stored_by (S.p + 1) (keep (writes S) ps) m in (x.0, 
 
 -- a point that writes is stored
 stored_key : (S : State) (v : ℕ) (ps : List Point) {q : Point} → Mem q ps → T (writes S q) → Mem (key_of q) (map key_in (stored_at v ps))
+stored_key S v [] {q = q} x'' t = elim x'' [ ]
 stored_key S v (Read k ∷ ps) (here e) t = absurd (subst (λ (z : Point). T (writes S z)) e t)
 stored_key S v (Read k ∷ ps) (there m) t = stored_key S v ps m t
 stored_key S v (Put k y ∷ ps) (here e) t = here (ap key_of e)

@@ -72,8 +72,8 @@ holds_left ps h positions_used_up = rw append-nil h
 -- a log
 pub holds_after : {S : State} {C : List Entry} → HoldsWrites S C → (ms : Log) → HoldsWrites (after S ms) (C ++ commits S ms)
 unfolding after commits next
-holds_after h [] = rw append-nil h
-holds_after {S} {C} h (m ∷ ms) = rw append_assoc at (holds_after (holds_left (points_of m) h (verdict S m)) ms)
+holds_after {S} {C} h [] = rw append-nil h
+holds_after {S} {C} h (m ∷ ms) = rw append_assoc at (holds_after {S = next S m} (holds_left (points_of m) h (verdict S m)) ms)
 
 -- a write of a key within reach at s + 1 to p
 pub of_written : (s p : ℕ) (f : List Scan) (C : List Entry) → T (written_in s p f C) → (c : Entry) × Mem c C × (s < c.position) × (c.position ≤ p) × T (meets f c.key (c.key + 1))

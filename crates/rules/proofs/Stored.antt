@@ -47,6 +47,7 @@ store_self e (y ∷ ys) =
 -- what a store takes away is the entry of the stored key
 pub store_other : (e : Entry) (es : List Entry) {x : Entry} → Mem x es → Mem x (store e es) ⊎ (e.key ≡ x.key)
 unfolding store
+store_other e [] {x = x} x3 = elim x3 [ ]
 store_other e (y ∷ ys) {x} (here p) =
     if_ind (λ l. Mem x l ⊎ (e.key ≡ x.key)) (ltb e.key y.key) (λ _. inl (there (here p)))
     (λ a. if_ind (λ l. Mem x l ⊎ (e.key ≡ x.key)) (ltb y.key e.key)
@@ -91,6 +92,7 @@ store_all_covers (x ∷ ws) es h c = store_all_covers ws (store x es) (λ y m. h
 -- what is stored is covered
 pub store_all_self : (ws es : List Entry) {x : Entry} → Mem x ws → ((y : Entry) → Mem y ws → x.position ≤ y.position) → Covered (store_all ws es) x.key x.position
 unfolding store_all
+store_all_self [] es {x = x} x4 h = elim x4 [ ]
 store_all_self (y ∷ ws) es {x} (here p) h =
     store_all_covers ws (store y es) (λ z m. h z (there m)) (y, store_self y es, ap (λ (z : Entry). z.key) (sym p), h y (here refl))
 store_all_self (y ∷ ws) es (there m) h = store_all_self ws (store y es) m (λ z n. h z (there n))

@@ -109,6 +109,7 @@ no_eq {a} {b} n = is_false (eqb a b) (not_T (eqb a b) (λ t. n (eqb→eq a b t))
 
 -- one that passes
 pub any_of : {A : Type 0} (f : A → Bool) {x : A} {xs : List A} → Mem x xs → T (f x) → T (any f xs)
+any_of {A = A} f {x = x} {xs = []} x6 t = elim x6 [ ]
 any_of f {x} {xs = y ∷ ys} (here e) t = or_left (f y) (any f ys) (subst (λ z. T (f z)) e t)
 any_of f {x} {xs = y ∷ ys} (there m) t = or_right (f y) (any f ys) (any_of f m t)
 
@@ -129,6 +130,7 @@ keep_mem f (y ∷ ys) {x} = if_ind (λ l. Mem x l → Mem x (y ∷ ys)) (f y)
 
 -- what passes is kept
 pub mem_keep : {A : Type 0} (f : A → Bool) (xs : List A) {x : A} → Mem x xs → T (f x) → Mem x (keep f xs)
+mem_keep {A = A} f [] {x = x} x4 t = elim x4 [ ]
 mem_keep f (y ∷ ys) {x} (here e) t = rw (is_true (f y) (subst (λ z. T (f z)) e t)) (here e)
 mem_keep f (y ∷ ys) {x} (there m) t = if_ind (λ l. Mem x l) (f y) (λ _. there (mem_keep f ys m t)) (λ _. mem_keep f ys m t)
 
@@ -144,5 +146,6 @@ mem_map h (there m) = there (mem_map h m)
 
 -- and the reverse
 pub of_map : {A B : Type 0} (h : A → B) (xs : List A) {y : B} → Mem y (map h xs) → (x : A) × Mem x xs × (y ≡ h x)
+of_map {A = A} {B = B} h [] {y = y} x' = elim x' [ ]
 of_map h (x ∷ xs) (here p) = (x, here refl, p)
 of_map h (x ∷ xs) (there m) = let b = of_map h xs m in (b.0, there b.1, b.2)

@@ -3,10 +3,10 @@ use crate::sentences::{name, say, say_number, say_why};
 use asking::{Numbers, Told, numbers_of};
 use libc::STDERR_FILENO;
 use lines::{ending_answer, print_answer, print_ending};
-use log::Cut;
 use meld::Status;
 use reason::Explained;
 use record::Answer;
+use record_log::Cut;
 
 // Prints the nine numbers, with single spaces and a line feed.
 fn print_numbers(of: Numbers) {

@@ -7,9 +7,9 @@ use mathlib.Core.List.{List, [], ◌∷◌, ◌++◌, append_assoc, append-nil}
 use lib.ListN.{length, take}
 use Rattle.words.specs.Choice.{if◌then◌else◌}
 use Rattle.record.specs.Answer.{committed}
-use Rattle.log.specs.declared.found.Cut.{Cut}
-use Rattle.log.specs.declared.found.Cut.TheVariants.{End, Impossible}
-use Rattle.log.specs.Walk.{joined}
+use Rattle.record_log.specs.declared.found.Cut.{Cut}
+use Rattle.record_log.specs.declared.found.Cut.TheVariants.{End, Impossible}
+use Rattle.record_log.specs.Walk.{joined}
 use Rattle.pool.specs.Image.{Fit}
 use Rattle.create.specs.Fresh.{Created}
 use Rattle.pages.specs.declared.told.Fed.{Fed}

@@ -9,8 +9,8 @@ use native.Mathlib.Omega.{arith}
 use lib.Dec.{eqb}
 use lib.ListN.{length, take, length-append}
 use Rattle.words.specs.Choice.{if◌then◌else◌}
-use Rattle.log.specs.declared.found.Cut.{Cut}
-use Rattle.log.specs.declared.found.Cut.TheVariants.{Impossible}
+use Rattle.record_log.specs.declared.found.Cut.{Cut}
+use Rattle.record_log.specs.declared.found.Cut.TheVariants.{Impossible}
 use Rattle.pages.specs.declared.told.Fed.{Fed}
 use Rattle.lines.specs.declared.parts.Going.{Going}
 use Rattle.lines.specs.Parts.{PartFed, Finishes}

@@ -2,8 +2,8 @@
 -- Assumes nothing: these are definitions.
 use Rattle.std.specs.Prelude.{ℕ, ◌≡◌, Bool, true, false, not, List, [], ◌∷◌, ◌++◌, eqb, length, take}
 use Rattle.words.specs.Choice.{if◌then◌else◌}
-use Rattle.log.specs.declared.found.Cut.{Cut}
-use Rattle.log.specs.declared.found.Cut.TheVariants.{Impossible}
+use Rattle.record_log.specs.declared.found.Cut.{Cut}
+use Rattle.record_log.specs.declared.found.Cut.TheVariants.{Impossible}
 use Rattle.pages.specs.declared.told.Fed.{Fed}
 use Rattle.lines.specs.declared.parts.Going.{Going}
 use Rattle.lines.specs.Parts.{PartFed, Finishes}

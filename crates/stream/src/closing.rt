@@ -1,7 +1,7 @@
 // How a run of the program ends, and the line that says so.
 use lines::{print_answer, print_ending};
-use log::Cut;
 use record::Answer;
+use record_log::Cut;
 
 // What a run ends with: the answer to limits that cannot be, what stands behind the last record of the log, or a read that failed.
 #[derive(Clone, Copy)]

@@ -6,7 +6,7 @@ use crate::closing::Ending;
 use crate::input::refill;
 use libc::STDIN_FILENO;
 use lines::{feed_part, finish};
-use log::Cut;
+use record_log::Cut;
 
 // How far the program is: the bytes carried, the position of the record that comes next, whether another page may follow, whether the last
 // read failed, and whether the log does not go on.

@@ -1,5 +1,5 @@
 -- `force::in_force` meets its promise: one law for each return (Cases.antt).
-use Rattle.log.proofs.Told.{cut_case}
+use Rattle.record_log.proofs.Told.{cut_case}
 use Rattle.in_force.proofs.Cases.{after_ahead, after_other, after_zero_none, after_zero, ends_inside}
 use borrow.Author.Rules.{rules}
 use Rattle.in_force.proofs.in_force.Statement.{statement}

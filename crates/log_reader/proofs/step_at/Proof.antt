@@ -50,9 +50,9 @@ use denote.Triple.Spec.{Meets, triple_of}
 use denote.Triple.Table.{entered, cited}
 use denote.Triple.Walked.{says, Stays, stay_none, stay_none_slice, walk_of, Goes-none, Goes-none_slice, Walks, ends_at, walked, walk_Meets}
 use denote.Exit.{yes}
-use Rattle.log.specs.declared.found.Cut.{Cut}
-use Rattle.log.specs.contracts.found.Cut as S
-use Rattle.log.proofs.found.Cut.TheLaws as S'
+use Rattle.record_log.specs.declared.found.Cut.{Cut}
+use Rattle.record_log.specs.contracts.found.Cut as S
+use Rattle.record_log.proofs.found.Cut.TheLaws as S'
 use Rattle.log_reader.specs.declared.LogReader.{LogReader}
 use Rattle.log_reader.specs.declared.Step.{Step}
 use Rattle.log_reader.specs.declared.Move.{Move}

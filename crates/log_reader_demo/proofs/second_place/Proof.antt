@@ -41,7 +41,7 @@ use denote.Triple.Entry.{on_entry}
 use denote.Triple.Spec.{triple_of}
 use denote.Triple.Table.{entered, cited}
 use denote.Triple.Walked.{says, Stays, stay_none_slice, walk_of, Goes-none_slice, ends_at, walked, walk_Meets}
-use Rattle.log.specs.Log.{cut_at, place_after}
+use Rattle.record_log.specs.Log.{cut_at, place_after}
 use Rattle.log_reader.specs.declared.LogReader.{LogReader}
 use Rattle.log_reader.specs.declared.Step.{Step}
 use Rattle.log_reader.specs.LogReader.{Opened, PlaceIs, Stepped}

@@ -47,19 +47,19 @@ use denote.Triple.Entry.{on_entry}
 use denote.Triple.Spec.{Meets, triple_of}
 use denote.Triple.Table.{entered, cited}
 use denote.Triple.Walked.{says, Stays, stay_ref, walk_of, Goes-ref, Walks, ends_at, walked, walk_Meets}
-use Rattle.log.specs.Log.{CutIs, HandedOut, place_after}
-use Rattle.log.proofs.Told.{cut_case}
-use Rattle.log.specs.declared.found.Cut.{Cut}
-use Rattle.log.specs.contracts.found.Cut as S
-use Rattle.log.proofs.found.Cut.TheLaws as S'
-use Rattle.log.specs.contracts.cut as cut
-use Rattle.log.proofs.cut.Symbol as cut-def
-use Rattle.log.proofs.cut.Symbol.{name as #log·cut}
-use Rattle.log.proofs.cut.Met as cut-thm
-use Rattle.log.specs.contracts.part as part
-use Rattle.log.proofs.part.Symbol as part-def
-use Rattle.log.proofs.part.Symbol.{name as #log·part}
-use Rattle.log.proofs.part.Met as part-thm
+use Rattle.record_log.specs.Log.{CutIs, HandedOut, place_after}
+use Rattle.record_log.proofs.Told.{cut_case}
+use Rattle.record_log.specs.declared.found.Cut.{Cut}
+use Rattle.record_log.specs.contracts.found.Cut as S
+use Rattle.record_log.proofs.found.Cut.TheLaws as S'
+use Rattle.record_log.specs.contracts.cut as cut
+use Rattle.record_log.proofs.cut.Symbol as cut-def
+use Rattle.record_log.proofs.cut.Symbol.{name as #log·cut}
+use Rattle.record_log.proofs.cut.Met as cut-thm
+use Rattle.record_log.specs.contracts.part as part
+use Rattle.record_log.proofs.part.Symbol as part-def
+use Rattle.record_log.proofs.part.Symbol.{name as #log·part}
+use Rattle.record_log.proofs.part.Met as part-thm
 use Rattle.log_reader.specs.declared.LogReader.{LogReader}
 use Rattle.log_reader.specs.declared.Step.{Step}
 use Rattle.log_reader.specs.LogReader.{Stepped}
@@ -266,6 +266,6 @@ step_spec 𝓤 𝓛 𝓜 𝓡 =
     entered 𝓤 𝓛.H (triple_of 𝓛 step.signature (step.spec 𝓛 𝓜.mem 𝓡.run))
     (tables 𝓤 𝓛.H 𝓜 𝓡 code.env).C (tables 𝓤 𝓛.H 𝓜 𝓡 code.env).Λ #log-reader·step code.function (code.unfolded 𝓤 𝓛.H 𝓜 𝓡)
     (step_meets 𝓛 𝓜.mem 𝓡.run (tables_of 𝓤 𝓛.H 𝓜 (tables 𝓤 𝓛.H 𝓜 𝓡 code.env))
-    (cited 𝓤 𝓛.H (CutC 𝓛 𝓜.mem 𝓡.run) 𝓜 𝓡 code.env #log·cut cut-def.routine code.calls-log::cut (cut-thm.met 𝓤 𝓛 𝓜 𝓡))
-    (cited 𝓤 𝓛.H (PartC 𝓛 𝓜.mem 𝓡.run) 𝓜 𝓡 code.env #log·part part-def.routine code.calls-log::part (part-thm.met 𝓤 𝓛 𝓜 𝓡))
+    (cited 𝓤 𝓛.H (CutC 𝓛 𝓜.mem 𝓡.run) 𝓜 𝓡 code.env #log·cut cut-def.routine code.calls-record_log::cut (cut-thm.met 𝓤 𝓛 𝓜 𝓡))
+    (cited 𝓤 𝓛.H (PartC 𝓛 𝓜.mem 𝓡.run) 𝓜 𝓡 code.env #log·part part-def.routine code.calls-record_log::part (part-thm.met 𝓤 𝓛 𝓜 𝓡))
     (cited 𝓤 𝓛.H (AfterC 𝓛 𝓜.mem 𝓡.run) 𝓜 𝓡 code.env #log-reader·place-after after-def.routine code.calls-log-reader::place-after (after-thm.met 𝓤 𝓛 𝓜 𝓡)))

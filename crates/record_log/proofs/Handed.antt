@@ -1,0 +1,54 @@
+-- One law for each return of `part`, and for what its range asks: what `cut` has said decides where the part lies and what it holds.
+-- Assumes nothing.
+use mathlib.Core.Path.{◌≡◌, refl, sym, ap, ◌∙◌}
+use Prim.Native.Nat.{ℕ, ◌+◌, ◌-◌}
+use mathlib.Core.List.{List, [], ◌∷◌}
+use mathlib.Core.Logic.{⊎_elim}
+use native.Mathlib.Omega.{arith}
+use lib.ListN.{take, drop}
+use base.Fml.{GName}
+use denote.Ref.{MutBor}
+use denote.Enum.Declared.{tag_of}
+use types.Run.{OneOf}
+use Rattle.record_log.specs.declared.found.Cut.{Cut}
+use Rattle.record_log.specs.declared.found.Cut.TheVariants.{End, Torn, Impossible, Record}
+use Rattle.record_log.specs.Log.{cut_at, part_of, start_of, HandedOut, RecordAt}
+use Rattle.record_log.specs.contracts.found.Cut as T
+use Rattle.record_log.proofs.Stands.{record_tells}
+
+-- where `cut` answers a record, one stands there
+pub stands : (log : List ℕ) (place next : ℕ) (c : Cut) → c ≡ cut_at log place → c ≡ Record next → RecordAt log place next
+stands log place next c is found = record_tells log place next (sym is ∙ found)
+
+module _ (log : MutBor (List ℕ)) (place : ℕ) (c : Cut) (is : c ≡ cut_at log.now place) (γ : GName) where
+  -- where `let .. else` goes on with none of the named variant, what is known is the tag
+  pub hands_none : OneOf (0 ∷ 1 ∷ 2 ∷ []) (tag_of T.the_type c) → HandedOut log place (record { ref_ptr = (log.ref_ptr.0, 0 + log.ref_ptr.1); ghost_name = γ; now = [] })
+  hands_none tag =
+      record {
+        bytes = sym (ap (λ (x : Cut). part_of x log.now place) (sym is) ∙ no_part c tag);
+        block = refl;
+        start = omega (arith, ap (λ (x : Cut). start_of x place) (sym is) ∙ no_start c tag);
+      }
+    where
+      no_part : (x : Cut) → OneOf (0 ∷ 1 ∷ 2 ∷ []) (tag_of T.the_type x) → part_of x log.now place ≡ []
+      no_part End h = refl
+      no_part Torn h = refl
+      no_part Impossible h = refl
+      no_part (Record n) h = absurd (⊎_elim (λ e. omega arith) (λ k. ⊎_elim (λ e. omega arith) (λ e. omega arith) k) h)
+
+      no_start : (x : Cut) → OneOf (0 ∷ 1 ∷ 2 ∷ []) (tag_of T.the_type x) → start_of x place ≡ 0
+      no_start End h = refl
+      no_start Torn h = refl
+      no_start Impossible h = refl
+      no_start (Record n) h = absurd (⊎_elim (λ e. omega arith) (λ k. ⊎_elim (λ e. omega arith) (λ e. omega arith) k) h)
+
+  -- the bytes from the first to the last of them, where those are the record's
+  pub hands_record : (next : ℕ) → c ≡ Record next → (first last : ℕ) → first ≡ place → last ≡ next
+      → HandedOut log place (record { ref_ptr = (log.ref_ptr.0, first + log.ref_ptr.1); ghost_name = γ; now = take (last - first) (drop first log.now) })
+  hands_record next found first last from to =
+      let e : cut_at log.now place ≡ Record next = sym is ∙ found in
+      record {
+        bytes = ap (λ (i : ℕ). take (i - first) (drop first log.now)) to ∙ ap (λ (i : ℕ). take (next - i) (drop i log.now)) from ∙ simp e;
+        block = refl;
+        start = simp e (omega arith);
+      }
