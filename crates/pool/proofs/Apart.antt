@@ -87,6 +87,7 @@ numbers_count (node i h low l r) =
 -- THE FREE NODES
 
 pub free_words : (m : List ℕ) (is : List ℕ) → HoldsFree m is → (j : ℕ) → Mem j is → ((node_at m j).height ≡ free_height) × ((node_at m j).newest ≤ length is)
+free_words m [] q j x'' = elim x'' [ ]
 free_words m (i ∷ is) q j (here s) =
     subst (λ (x : ℕ). ((node_at m x).height ≡ free_height) × ((node_at m x).newest ≤ suc (length is))) (sym s) (ap (λ (n : Node). n.height) q.0, omega (arith, ap (λ (n : Node). n.newest) q.0))
 free_words m (i ∷ is) q j (there s) = let f = free_words m is q.1 j s in (f.0, omega (arith, f.1))

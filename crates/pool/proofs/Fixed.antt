@@ -29,6 +29,7 @@ tree_nodes m m' (node i h low l r) p q j (there s) =
     ⊎_elim (λ (y : Mem j (numbers l)). tree_nodes m m' l p.1 q.1 j y) (λ (y : Mem j (numbers r)). tree_nodes m m' r p.2 q.2 j y) (in-append (numbers l) s)
 
 free_nodes : (m m' : List ℕ) (is : List ℕ) → HoldsFree m is → HoldsFree m' is → (j : ℕ) → Mem j is → node_at m j ≡ node_at m' j
+free_nodes m m' mathlib.Core.List.[] p q j x3 = elim x3 [ ]
 free_nodes m m' (i ∷ is) p q j (here s) = subst (λ (x : ℕ). node_at m x ≡ node_at m' x) (sym s) (p.0 ∙ sym q.0)
 free_nodes m m' (i ∷ is) p q j (there s) = free_nodes m m' is p.1 q.1 j s
 

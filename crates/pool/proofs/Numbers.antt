@@ -38,6 +38,7 @@ times_mem i (x ∷ xs) h = go (eqb i x) refl (times_mem i xs)
 
 pub mem_times : {i : ℕ} {xs : List ℕ} → Mem i xs → 1 ≤ times i xs
 unfolding times
+mem_times {i = i} {xs = []} x'' = elim x'' [ ]
 mem_times {i} {xs = x ∷ xs} (here e) = rw (eq-eqb i x e) (omega arith)
 mem_times {i} {xs = x ∷ xs} (there m) = omega (arith, mem_times m)
 
@@ -73,6 +74,7 @@ times_below n (x ∷ xs) h = (small, times_below n xs (λ i l. omega (arith, h i
     small = elim (native.Mathlib.Decide.dec_lt x n) [ yes l ↦ l | no g ↦ absurd (omega (arith, h x (omega arith), times_same x xs)) ]
 
 pub below_mem : {n i : ℕ} {xs : List ℕ} → AllBelow n xs → Mem i xs → i < n
+below_mem {n = n} {i = i} {xs = []} b x5 = elim x5 [ ]
 below_mem {n} {i} {xs = x ∷ xs} b (here e) = omega (arith, b.0)
 below_mem {n} {i} {xs = x ∷ xs} b (there m) = below_mem b.1 m
 

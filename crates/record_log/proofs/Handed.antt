@@ -6,8 +6,7 @@ use mathlib.Core.List.{List, [], ◌∷◌}
 use mathlib.Core.Logic.{⊎_elim}
 use native.Mathlib.Omega.{arith}
 use lib.ListN.{take, drop}
-use base.Fml.{GName}
-use denote.Ref.{MutBor}
+use denote.Ref.{Bor}
 use denote.Enum.Declared.{tag_of}
 use types.Run.{OneOf}
 use Rattle.record_log.specs.declared.found.Cut.{Cut}
@@ -20,9 +19,9 @@ use Rattle.record_log.proofs.Stands.{record_tells}
 pub stands : (log : List ℕ) (place next : ℕ) (c : Cut) → c ≡ cut_at log place → c ≡ Record next → RecordAt log place next
 stands log place next c is found = record_tells log place next (sym is ∙ found)
 
-module _ (log : MutBor (List ℕ)) (place : ℕ) (c : Cut) (is : c ≡ cut_at log.now place) (γ : GName) where
+module _ (log : Bor (List ℕ)) (place : ℕ) (c : Cut) (is : c ≡ cut_at log.now place) where
   -- where `let .. else` goes on with none of the named variant, what is known is the tag
-  pub hands_none : OneOf (0 ∷ 1 ∷ 2 ∷ []) (tag_of T.the_type c) → HandedOut log place (record { ref_ptr = (log.ref_ptr.0, 0 + log.ref_ptr.1); ghost_name = γ; now = [] })
+  pub hands_none : OneOf (0 ∷ 1 ∷ 2 ∷ []) (tag_of T.the_type c) → HandedOut log place (record { ref_ptr = (log.ref_ptr.0, 0 + log.ref_ptr.1); now = [] })
   hands_none tag =
       record {
         bytes = sym (ap (λ (x : Cut). part_of x log.now place) (sym is) ∙ no_part c tag);
@@ -44,7 +43,7 @@ module _ (log : MutBor (List ℕ)) (place : ℕ) (c : Cut) (is : c ≡ cut_at lo
 
   -- the bytes from the first to the last of them, where those are the record's
   pub hands_record : (next : ℕ) → c ≡ Record next → (first last : ℕ) → first ≡ place → last ≡ next
-      → HandedOut log place (record { ref_ptr = (log.ref_ptr.0, first + log.ref_ptr.1); ghost_name = γ; now = take (last - first) (drop first log.now) })
+      → HandedOut log place (record { ref_ptr = (log.ref_ptr.0, first + log.ref_ptr.1); now = take (last - first) (drop first log.now) })
   hands_record next found first last from to =
       let e : cut_at log.now place ≡ Record next = sym is ∙ found in
       record {

@@ -7,7 +7,7 @@ use Rattle.record_log.proofs.Handed.{stands, hands_none, hands_record}
 use Rattle.record_log.proofs.part.Goals as goal
 
 pub returns-in_default : goal.returns-in_default
-returns-in_default c = hands_none _ _ _ (cut_case _ _ _ c.cut-found.ensures) _ c.in_default.keys2
+returns-in_default c = hands_none _ _ _ (cut_case _ _ _ c.cut-found.ensures) c.in_default.in_default-own.keys2
 
 pub slice_bounds-result-count-2 : goal.slice_bounds-result-count-2
 slice_bounds-result-count-2 c = omega (arith, stands _ _ _ _ (cut_case _ _ _ c.cut-found.ensures) c.in-Record.is)
@@ -19,4 +19,4 @@ pub slice_bounds-result-end-2 : goal.slice_bounds-result-end-2
 slice_bounds-result-end-2 c = omega (arith, stands _ _ _ _ (cut_case _ _ _ c.cut-found.ensures) c.in-Record.is)
 
 pub returns : goal.returns
-returns c = hands_record _ _ _ (cut_case _ _ _ c.cut-found.ensures) _ _ c.in-Record.is _ _ (omega arith) (omega arith)
+returns c = hands_record _ _ _ (cut_case _ _ _ c.cut-found.ensures) _ c.in-Record.is _ _ (omega arith) (omega arith)
