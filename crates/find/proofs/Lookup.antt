@@ -28,7 +28,7 @@ unfolding found_in lookup
 found_lookup k S = seen_of (find k S.kept)
 
 -- a key below or past all entries is not there
-find_below : (k : ℕ) {lo hi : ℕ} {es : List Entry} → k < lo → Rising hi lo es → find k es ≡ none
+find_below : (k : ℕ) {hi lo : ℕ} {es : List Entry} → k < lo → Rising hi lo es → find k es ≡ none
 find_below k l (end h) = refl
 find_below k l (link {e = e} h r) = rw (no_eq {a = e.key} {b = k} (λ q. omega arith)) (find_below k (omega arith) r)
 

@@ -2,12 +2,13 @@
 -- Assumes nothing.
 use native.Mathlib.Omega.{arith}
 use borrow.Author.Rules.{rules}
+use borrow.Enum.Refused.{opened}
 use Rattle.record_log.proofs.Told.{cut_case}
 use Rattle.record_log.proofs.Handed.{stands, hands_none, hands_record}
 use Rattle.record_log.proofs.part.Goals as goal
 
 pub returns-in_default : goal.returns-in_default
-returns-in_default c = hands_none _ _ _ (cut_case _ _ _ c.cut-found.ensures) c.in_default.in_default-own.keys2
+returns-in_default c = hands_none _ _ _ (cut_case _ _ _ c.cut-found.ensures) (opened c.in_default.in_default-own.keys2)
 
 pub slice_bounds-result-count-2 : goal.slice_bounds-result-count-2
 slice_bounds-result-count-2 c = omega (arith, stands _ _ _ _ (cut_case _ _ _ c.cut-found.ensures) c.in-Record.is)

@@ -1,0 +1,14 @@
+-- The power is below 2 ^ 32, so nothing wraps.
+-- Assumes nothing.
+use Prim.Native.Nat.{◌-◌, ◌^◌}
+use native.Mathlib.Omega.{arith}
+use lib.Pow.{shl_exact, pow_mono}
+use borrow.Author.Rules.{rules}
+use Rattle.find.proofs.middle.Goals as goal
+
+pub overflow_add-result : goal.overflow_add-result
+overflow_add-result c =
+    omega (arith, shl_exact {a = 1} 1 (c.args.height - 1) 64 (omega arith) (omega arith), pow_mono {i = c.args.height - 1} {j = 32} (omega arith))
+
+pub returns : goal.returns
+returns c = omega (arith, shl_exact {a = 1} 1 (c.args.height - 1) 64 (omega arith) (omega arith))
