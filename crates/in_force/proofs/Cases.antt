@@ -6,7 +6,6 @@ use mathlib.Core.List.{List, [], ◌∷◌}
 use mathlib.Core.Logic.{⊎_elim}
 use native.Mathlib.Omega.{arith}
 use lib.ListN.{length, take, drop}
-use base.Fml.{GName}
 use borrow.Author.Tests.{eq-eqb, ne_eqb}
 use denote.Ref.{Bor}
 use denote.Enum.Declared.{tag_of}
@@ -26,21 +25,21 @@ module _ (a : Answer) (o b : Bor (List ℕ)) where
   after_ahead e = record { bytes = simp (eq-eqb _ _ e); block = simp (eq-eqb _ _ e); start = simp (eq-eqb _ _ e) }
 
   -- the empty part at the original's start
-  none : (γ : GName) → source_of a b.now ≡ Source.nothing → InForce a o b (record { ref_ptr = (o.ref_ptr.0, 0 + o.ref_ptr.1); ghost_name = γ; now = [] })
-  none γ e = record { bytes = simp e; block = simp e; start = simp e (omega arith) }
+  none : source_of a b.now ≡ Source.nothing → InForce a o b (record { ref_ptr = (o.ref_ptr.0, 0 + o.ref_ptr.1); now = [] })
+  none e = record { bytes = simp e; block = simp e; start = simp e (omega arith) }
 
   module _ (not_ahead : a.number ≡ 5 → ⊥) where
-    pub after_other : (γ : GName) → (a.number ≡ 0 → ⊥) → InForce a o b (record { ref_ptr = (o.ref_ptr.0, 0 + o.ref_ptr.1); ghost_name = γ; now = [] })
+    pub after_other : (a.number ≡ 0 → ⊥) → InForce a o b (record { ref_ptr = (o.ref_ptr.0, 0 + o.ref_ptr.1); now = [] })
     unfolding source_of
-    after_other γ h = none γ (simp (ne_eqb _ _ not_ahead, ne_eqb _ _ h))
+    after_other h = none (simp (ne_eqb _ _ not_ahead, ne_eqb _ _ h))
 
     module _ (zero : a.number ≡ 0) (c : Cut) (is : c ≡ cut_at b.now 0) where
       source : source_of a b.now ≡ if_cut c
       unfolding source_of
       source = simp (ne_eqb _ _ not_ahead, eq-eqb _ _ zero, ← is)
 
-      pub after_zero_none : (γ : GName) → OneOf (0 ∷ 1 ∷ 2 ∷ []) (tag_of T.the_type c) → InForce a o b (record { ref_ptr = (o.ref_ptr.0, 0 + o.ref_ptr.1); ghost_name = γ; now = [] })
-      after_zero_none γ tag = none γ (source ∙ no_record c tag)
+      pub after_zero_none : OneOf (0 ∷ 1 ∷ 2 ∷ []) (tag_of T.the_type c) → InForce a o b (record { ref_ptr = (o.ref_ptr.0, 0 + o.ref_ptr.1); now = [] })
+      after_zero_none tag = none (source ∙ no_record c tag)
         where
           no_record : (x : Cut) → OneOf (0 ∷ 1 ∷ 2 ∷ []) (tag_of T.the_type x) → if_cut x ≡ Source.nothing
           no_record End h = refl
@@ -48,9 +47,9 @@ module _ (a : Answer) (o b : Bor (List ℕ)) where
           no_record Impossible h = refl
           no_record (Record n) h = absurd (⊎_elim (λ e. omega arith) (λ k. ⊎_elim (λ e. omega arith) (λ e. omega arith) k) h)
 
-      pub after_zero : (γ : GName) (next : ℕ) → c ≡ Record next
-          → InForce a o b (record { ref_ptr = (b.ref_ptr.0, 0 + b.ref_ptr.1); ghost_name = γ; now = take (next - 0) (drop 0 b.now) })
-      after_zero γ next found =
+      pub after_zero : (next : ℕ) → c ≡ Record next
+          → InForce a o b (record { ref_ptr = (b.ref_ptr.0, 0 + b.ref_ptr.1); now = take (next - 0) (drop 0 b.now) })
+      after_zero next found =
           let e : source_of a b.now ≡ Source.refreshed = source ∙ ap if_cut found in
           let d : cut_at b.now 0 ≡ Record next = sym is ∙ found in
           record { bytes = simp (e, d); block = simp e; start = simp e (omega arith) }

@@ -1,7 +1,7 @@
 -- The way back: a node above a subtree in which the entry was stored, with newest and oldest mended.
 -- Assumes nothing.
 use Prim.Native.Nat.{ℕ, ◌+◌, ◌-◌, ◌^◌, ◌≤◌, ◌<◌}
-use mathlib.Core.Path.{◌≡◌, refl, ap, ◌∙◌}
+use mathlib.Core.Path.{◌≡◌, refl, sym, ap, ◌∙◌, subst}
 use mathlib.Core.Bool.{true, false}
 use mathlib.Core.List.{List}
 use native.Mathlib.Omega.{arith}
@@ -84,9 +84,9 @@ module _ (m : List ℕ) (i h low : ℕ) (l r : Plan) (e : Entry) (a b : ℕ) (p 
         let self = bit_same i i refl in
         record {
           bytes = bytes_node m1 i _ q.bytes;
-          holds = rw (put_left, q.root_is) (mended_holds m1 i h low (put_plan a b e l) r (omega (arith, rooms.0)) q.bytes q.holds
+          holds = rw put_left (subst (λ (x : ℕ). Holds (mended m1 i h low x (number r)) (node i h low (put_plan a b e l) r)) (sym q.root_is) (mended_holds m1 i h low (put_plan a b e l) r (omega (arith, rooms.0)) q.bytes q.holds
               (other_holds r (put_plan a b e l) m m1 p.holds.2 q.frame (λ j. omega (arith, p.once j, count_left j)))
-              words_fit.0 words_fit.1 (small p _ rooms.1) (small p _ rooms.2) (λ t. omega (arith, mem_times t)) (λ t. omega (arith, mem_times t)));
+              words_fit.0 words_fit.1 (small p _ rooms.1) (small p _ rooms.2) (λ t. omega (arith, mem_times t)) (λ t. omega (arith, mem_times t))));
           root_is = rw put_left;
           new_is = rw has_left q.new_is;
           frame = frame_then (frame_widen q.frame (λ j t. omega (arith, count_left j))) (frame_widen (frame_put m1 i _) (λ j t. omega (arith, count_left j, bit_same j i t)));
@@ -137,9 +137,9 @@ module _ (m : List ℕ) (i h low : ℕ) (l r : Plan) (e : Entry) (a b : ℕ) (p 
         let self = bit_same i i refl in
         record {
           bytes = bytes_node m1 i _ q.bytes;
-          holds = rw (put_right, q.root_is) (mended_holds m1 i h low l (put_plan a b e r) (omega (arith, rooms.0)) q.bytes
+          holds = rw put_right (subst (λ (x : ℕ). Holds (mended m1 i h low (number l) x) (node i h low l (put_plan a b e r))) (sym q.root_is) (mended_holds m1 i h low l (put_plan a b e r) (omega (arith, rooms.0)) q.bytes
               (other_holds l (put_plan a b e r) m m1 p.holds.1 q.frame (λ j. omega (arith, p.once j, count_right j)))
-              q.holds words_fit.0 words_fit.1 (small p _ rooms.1) (small p _ rooms.2) (λ t. omega (arith, mem_times t)) (λ t. omega (arith, mem_times t)));
+              q.holds words_fit.0 words_fit.1 (small p _ rooms.1) (small p _ rooms.2) (λ t. omega (arith, mem_times t)) (λ t. omega (arith, mem_times t))));
           root_is = rw put_right;
           new_is = rw has_right q.new_is;
           frame = frame_then (frame_widen q.frame (λ j t. omega (arith, count_right j))) (frame_widen (frame_put m1 i _) (λ j t. omega (arith, count_right j, bit_same j i t)));
