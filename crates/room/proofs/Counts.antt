@@ -55,10 +55,10 @@ found_store k e es d =
     ap found_of h
 
 -- a store adds an entry exactly where the key was absent
-length_store : (e : Entry) {lo hi : ℕ} {es : List Entry} → Rising hi lo es → length (store e es) ≡ length es + one_if_absent (found_in e.key es)
+length_store : (e : Entry) {hi lo : ℕ} {es : List Entry} → Rising hi lo es → length (store e es) ≡ length es + one_if_absent (found_in e.key es)
 unfolding store found_in
 length_store e (end l) = refl
-length_store e {lo} {hi} (link {e = x} {es = es} l r) = go (ltb e.key x.key) (ltb x.key e.key) refl refl (length_store e r)
+length_store e {hi} {lo} (link {e = x} {es = es} l r) = go (ltb e.key x.key) (ltb x.key e.key) refl refl (length_store e r)
   where
     kept : (w : ℕ) (o : Option ℕ) → suc (length es) ≡ suc (length es) + one_if_absent (found_at w o)
     kept w none = omega arith
@@ -153,7 +153,7 @@ length_stays limit (e ∷ es) = go (old limit e) (length_stays limit es)
     go false h = omega arith
 
 -- a key is absent among those that stay exactly if it was absent or old
-found_stays : (limit k : ℕ) {lo hi : ℕ} {es : List Entry} → Rising hi lo es → one_if_absent (found_in k (keep (stays limit) es)) ≡ one_if_absent (found_in k es) + one_if_revived limit (found_in k es)
+found_stays : (limit k : ℕ) {hi lo : ℕ} {es : List Entry} → Rising hi lo es → one_if_absent (found_in k (keep (stays limit) es)) ≡ one_if_absent (found_in k es) + one_if_revived limit (found_in k es)
 unfolding found_in old
 found_stays limit k (end l) = refl
 found_stays limit k (link {e = x} {es = es} l r) = go (eqb x.key k) (old limit x) refl refl (found_stays limit k r)
@@ -189,7 +189,7 @@ holds_stays limit S r k l = found_stays limit k r ∙ go (find k S.kept) l
     go none h = let z : ◌≡◌ {A = ℕ} 0 1 = cc in absurd (omega arith)
     go (some e) h = lives e.position e.payload h
 
-tally_stays : (limit low : ℕ) (ps : List Point) {lo hi : ℕ} {es : List Entry} → Rising hi lo es
+tally_stays : (limit low : ℕ) (ps : List Point) {hi lo : ℕ} {es : List Entry} → Rising hi lo es
     → tally one_if_absent ps (keep (stays limit) es) ≡ tally one_if_absent ps es + tally (one_if_revived limit) ps es
 unfolding tally
 tally_stays limit low [] r = refl

@@ -1,0 +1,33 @@
+-- `commit::apply` meets its promise. The invariant: storing the rest from the present arrangement gives the whole (Turns.antt).
+use mathlib.Core.Logic.{⊎_elim}
+use Prim.Native.Nat.{◌-◌}
+use native.Mathlib.Omega.{arith}
+use lib.ListN.{length}
+use borrow.Author.Rules.{rules}
+use Rattle.commit.proofs.Turns.{Going, starts, passed_over, is_put, is_delete, has_room, moved_on_lem, loop_ends}
+use Rattle.commit.proofs.apply.apply.Goals as goal
+use Rattle.commit.proofs.apply.apply.Goals.{in-Put, in-Delete}
+
+pub loop-i-init : goal.loop-i-init
+loop-i-init c = starts _ _ _ _
+
+pub bounds-kinds-i : goal.bounds-kinds-i
+bounds-kinds-i c = omega (arith, c.requires.as_many_keys)
+
+pub offset_bounds-payloads-i : goal.offset_bounds-payloads-i
+offset_bounds-payloads-i c = record { fits = omega (arith, c.well_formed.1.1.1.0, c.requires.as_many_keys, c.requires.as_many_payloads) }
+
+pub bounds-payloads-i : goal.bounds-payloads-i
+bounds-payloads-i c = omega (arith, c.requires.as_many_keys, c.requires.as_many_payloads)
+
+pub loop-i-preserved-in_default : goal.loop-i-preserved-in_default
+loop-i-preserved-in_default c = passed_over _ _ _ _ _ _ c.requires c.loop-i.invariant c.loop-i-test.true _ _ c.point_of-point.ensures c.in_default.is
+
+pub put-requires : goal.put-requires
+put-requires c = has_room _ _ _ _ _ _ c.requires c.loop-i.invariant c.loop-i-test.true _ _ (elim c.match-point.branch [ in-Put w ↦ is_put _ _ _ _ _ _ c.requires c.loop-i.invariant c.loop-i-test.true _ _ _ _ _ _ c.point_of-point.ensures w.1.given.1 w.3 w.4 c.value_of.ensures | in-Delete w ↦ is_delete _ _ _ _ _ _ c.requires c.loop-i.invariant c.loop-i-test.true _ _ _ _ _ c.point_of-point.ensures w.in-Put.is w.key-is w.point-is c.value_of.ensures ])
+
+pub loop-i-preserved : goal.loop-i-preserved
+loop-i-preserved c = moved_on_lem _ _ _ _ _ _ c.requires c.loop-i.invariant c.loop-i-test.true _ _ (elim c.match-point.branch [ in-Put w ↦ is_put _ _ _ _ _ _ c.requires c.loop-i.invariant c.loop-i-test.true _ _ _ _ _ _ c.point_of-point.ensures w.1.given.1 w.3 w.4 c.value_of.ensures | in-Delete w ↦ is_delete _ _ _ _ _ _ c.requires c.loop-i.invariant c.loop-i-test.true _ _ _ _ _ c.point_of-point.ensures w.in-Put.is w.key-is w.point-is c.value_of.ensures ]) _ c.put.auto.pool c.put.ensures
+
+pub returns : goal.returns
+returns c = loop_ends _ _ _ _ _ _ c.requires c.loop-i.invariant c.loop-i-test.false

@@ -1,0 +1,12 @@
+-- `commit::point_of` meets its promise: the tests on the kind decide the point.
+use borrow.Author.Tests.{eq-eqb, ne_eqb}
+use Rattle.commit.proofs.apply.point_of.Goals as goal
+
+pub returns-then-kind-eq2 : goal.returns-then-kind-eq2
+returns-then-kind-eq2 c = simp (eq-eqb _ _ c.if-kind-eq2.true)
+
+pub returns-then-kind-eq3 : goal.returns-then-kind-eq3
+returns-then-kind-eq3 c = simp (ne_eqb _ _ c.if-kind-eq2.false, eq-eqb _ _ c.if-kind-eq3.true)
+
+pub returns : goal.returns
+returns c = simp (ne_eqb _ _ c.if-kind-eq2.false, ne_eqb _ _ c.if-kind-eq3.false)
