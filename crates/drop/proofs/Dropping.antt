@@ -23,7 +23,6 @@ use Rattle.pool.specs.Frame.{Frame}
 use Rattle.pool.proofs.Frame.{frame_put, frame_widen, frame_then, frame_node, tree_frame, root_in}
 use Rattle.pool.proofs.Words.{mended_holds}
 use Rattle.pool.proofs.Headers.{first_small}
-use Rattle.drop.specs.Old.{old}
 use Rattle.drop.specs.Drop.{join_plan, join_free, drop_plan, freed}
 use Rattle.drop.specs.Spot.{Spot, Dropped}
 use Rattle.drop.proofs.Plans.{drop_times, drop-length, left_mem}

@@ -1,6 +1,6 @@
 -- From the image of an arrangement to what the recursions start from: a tree in the bytes whose heights fall, and free nodes apart from it.
 -- Assumes nothing.
-use Prim.Native.Nat.{ℕ, ◌+◌, ◌*◌, ◌≤◌}
+use Prim.Native.Nat.{ℕ, ◌*◌, ◌≤◌}
 use native.Mathlib.Omega.{arith}
 use mathlib.Core.Path.{◌≡◌, subst, subst⁻¹}
 use mathlib.Core.List.{List, ◌++◌}

@@ -5,7 +5,7 @@ use native.Mathlib.Omega.{arith}
 use mathlib.Core.Path.{◌≡◌, sym, ap, subst, ◌∙◌}
 use mathlib.Core.Logic.{◌≢◌}
 use mathlib.Core.List.{List}
-use mathlib.Core.Option.{none, some}
+use mathlib.Core.Option.{some}
 use lib.ListN.{length}
 use Rattle.nodes.specs.declared.node.Node.{Node}
 use Rattle.nodes.specs.Nodes.{base, node_at, put_node}
@@ -16,7 +16,6 @@ use Rattle.pool.specs.Subtree.{height_of}
 use Rattle.pool.specs.Image.{first_of}
 use Rattle.pool.proofs.Frame.{root_holds, root_in}
 use Rattle.pool.proofs.Words.{root_height, root_oldest}
-use Rattle.drop.specs.Old.{old}
 use Rattle.drop.specs.Drop.{drop_plan, freed}
 use Rattle.drop.specs.Spot.{FreedNode, Spot, DropReady, Dropped, Drops}
 use Rattle.drop.proofs.Olds.{live_stays, tombstone_old}

@@ -2,7 +2,7 @@
 -- Assumes nothing.
 use Prim.Native.Nat.{ℕ, suc, ◌+◌, ◌≤◌, ◌<◌}
 use native.Mathlib.Omega.{arith}
-use mathlib.Core.Path.{◌≡◌, refl, ap, ◌∙◌}
+use mathlib.Core.Path.{◌≡◌, refl, ◌∙◌}
 use mathlib.Core.Bool.{Bool, true, false, not}
 use mathlib.Core.List.{List, [], ◌∷◌, Memᴰ as Mem}
 use mathlib.Core.Option.{Option, none, some}
@@ -10,7 +10,7 @@ use lib.ListN.{length, length-append}
 use Rattle.words.specs.Choice.{if◌then◌else◌}
 use Rattle.rules.specs.Tree.{Tree, empty, join, oldest}
 use Rattle.rules.proofs.Prune.{prune}
-use Rattle.pool.specs.Plan.{Plan, leaf, node, tree_in, number, numbers}
+use Rattle.pool.specs.Plan.{Plan, leaf, node, tree_in, numbers}
 use Rattle.pool.specs.Image.{tree_or, numbers_or}
 use Rattle.pool.specs.Times.{times}
 use Rattle.pool.proofs.Numbers.{times_append, mem_times, times_mem}

@@ -8,9 +8,8 @@ use mathlib.Core.Bool.{true}
 use mathlib.Core.List.Memᴰ.{append_left as in_left}
 use mathlib.Core.List.Memᴰ.{head as here}
 use mathlib.Core.List.{List, [], ◌∷◌, ◌++◌, Memᴰ as Mem}
-use mathlib.Core.Option.{Option, none, some}
+use mathlib.Core.Option.{Option, some}
 use lib.ListN.{length, length-append}
-use Rattle.nodes.specs.declared.node.Node.{Node}
 use Rattle.nodes.specs.Nodes.{base, put_node}
 use Rattle.nodes.specs.Laws.{bytes_node}
 use Rattle.rules.specs.State.{Entry}

@@ -8,7 +8,7 @@ use mathlib.Core.List.{List, [], ◌∷◌, ◌++◌}
 use mathlib.Core.Option.{Option, none, some}
 use lib.Dec.{eqb}
 use Rattle.rules.specs.State.{Entry, State, Rising, end, link}
-use Rattle.rules.specs.Lookup.{found, find, payload_at, seen, lookup}
+use Rattle.rules.specs.Lookup.{find, payload_at, seen, lookup}
 use Rattle.rules.proofs.Tests.{test, is_true, is_false, no_eq}
 use Rattle.rules.proofs.Sorted.{rising_range}
 use Rattle.find.specs.Found.{found_at, found_of, found_in, seen_as}

@@ -1,9 +1,8 @@
 -- What the code reads and writes field by field is the node and the header of the definitions.
 -- Assumes nothing.
-use Prim.Native.Nat.{ℕ, ◌+◌, ◌*◌}
-use mathlib.Core.Path.{◌≡◌, refl, sym, ap, ◌∙◌}
-use mathlib.Core.List.{List, [], ◌∷◌}
-use native.Mathlib.Omega.{arith}
+use Prim.Native.Nat.{ℕ, ◌+◌}
+use mathlib.Core.Path.{◌≡◌, ◌∙◌}
+use mathlib.Core.List.{List}
 use native.Mathlib.Nat.{add_assoc}
 use Rattle.words.specs.Word.{word, put_word}
 use Rattle.nodes.specs.declared.node.Node.{Node}

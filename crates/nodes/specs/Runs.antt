@@ -1,7 +1,7 @@
 -- Words stored one behind the other: each is read back, what lies apart is as it was.
 -- Assumes nothing.
 use Rattle.std.specs.Prelude.{ℕ, zero, suc, ◌+◌, ◌*◌, ◌^◌, ◌≤◌, ◌<◌, ◌≡◌, refl, ◌⊎◌, List, [], ◌∷◌, length, get_or}
-use Rattle.std.proofs.Common.{sym, ap, ◌∙◌, inl, inr, ⊎_elim, arith}
+use Rattle.std.proofs.Common.{◌∙◌, inl, inr, ⊎_elim, arith}
 use Rattle.words.specs.Word.{Bytes, word, put_word}
 use Rattle.words.specs.Laws.{length_put, byte_put, word_put, word_apart, bytes_put}
 use Rattle.nodes.specs.Nodes.{put_words}

@@ -1,9 +1,9 @@
 -- The nodes of a tree and the free nodes are apart from each other: no number stands twice. A node's number decides its words, and the
 -- words of two nodes of a tree differ, as do those of two free nodes.
 -- Assumes nothing.
-use Prim.Native.Nat.{ℕ, suc, ◌+◌, ◌-◌, ◌*◌, ◌^◌, ◌≤◌}
+use Prim.Native.Nat.{ℕ, suc, ◌+◌, ◌*◌, ◌^◌, ◌≤◌}
 use mathlib.Core.Path.{◌≡◌, refl, sym, ap, ◌∙◌, subst}
-use mathlib.Core.Logic.{◌⊎◌, ⊎_elim}
+use mathlib.Core.Logic.{⊎_elim}
 use mathlib.Core.List.Memᴰ.{append_cases as in-append}
 use mathlib.Core.List.Memᴰ.{head as here}
 use mathlib.Core.List.Memᴰ.{tail as there}
@@ -16,7 +16,7 @@ use lib.Pow.{pow_pos}
 use Rattle.nodes.specs.declared.node.Node.{Node}
 use Rattle.nodes.specs.Nodes.{node_at}
 use Rattle.rules.specs.Tree.{entries}
-use Rattle.pool.specs.Plan.{Plan, leaf, node, tree_in, number, numbers, free_height, leaf_node}
+use Rattle.pool.specs.Plan.{Plan, leaf, node, tree_in, numbers, free_height, leaf_node}
 use Rattle.pool.specs.Image.{Distinct, Holds, HoldsFree}
 use Rattle.pool.proofs.Placed.{Placed, at_leaf, at_node, not_higher}
 

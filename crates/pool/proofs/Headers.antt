@@ -11,7 +11,7 @@ use Rattle.words.specs.Word.{Bytes}
 use Rattle.nodes.specs.Nodes.{put_header}
 use Rattle.nodes.specs.Laws.{HeaderFits, length_header, bytes_header, byte_header, header_put, node_header}
 use Rattle.rules.specs.Tree.{entries}
-use Rattle.pool.specs.Plan.{Plan, leaf, node, tree_in, number, numbers}
+use Rattle.pool.specs.Plan.{Plan, leaf, node, tree_in, numbers}
 use Rattle.pool.specs.Image.{Arrangement, Arranged, Image, AllBelow, HoldsTree, HoldsFree, first_of, tree_or, root_or, numbers_or, header_of}
 use Rattle.pool.proofs.Numbers.{below_mem, below_part, times_append}
 use Rattle.pool.proofs.Frame.{tree_frame, free_frame, root_in}

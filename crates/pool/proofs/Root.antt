@@ -11,7 +11,7 @@ use Rattle.nodes.specs.Nodes.{header_at}
 use Rattle.rules.specs.Tree.{Tree}
 use Rattle.rules.specs.Shape.{Canonical}
 use Rattle.rules.proofs.Trees.{tree_of_canonical}
-use Rattle.pool.specs.Plan.{Plan, number, numbers, no_node}
+use Rattle.pool.specs.Plan.{Plan, numbers, no_node}
 use Rattle.pool.specs.Image.{Arrangement, Arranged, AllBelow, HoldsTree, Image, Fit, tree_or, root_or, numbers_or}
 use Rattle.pool.specs.Subtree.{StandsAt, Rooted}
 use Rattle.pool.proofs.Numbers.{below_mem}

@@ -1,10 +1,8 @@
 -- A pool is the image of one arrangement: each node's words tell what stands there.
 -- Assumes nothing.
-use Prim.Native.Nat.{ℕ, ◌+◌, ◌-◌, ◌*◌, ◌<◌}
+use Prim.Native.Nat.{ℕ, ◌*◌, ◌<◌}
 use mathlib.Core.Path.{◌≡◌, refl, sym, ap, ◌∙◌, subst}
 use mathlib.Core.List.Memᴰ.{append_left as in_left}
-use mathlib.Core.List.Memᴰ.{head as here}
-use mathlib.Core.List.Memᴰ.{tail as there}
 use mathlib.Core.List.{List, [], ◌∷◌, ◌++◌}
 use mathlib.Core.Option.{Option, none, some}
 use native.Mathlib.Omega.{arith}
@@ -14,7 +12,7 @@ use Rattle.nodes.specs.declared.header.Header.{Header}
 use Rattle.nodes.specs.Nodes.{node_at}
 use Rattle.rules.specs.State.{Entry}
 use Rattle.rules.proofs.Trees.{tree_of_canonical}
-use Rattle.pool.specs.Plan.{Plan, leaf, node, number, numbers, leaf_node}
+use Rattle.pool.specs.Plan.{Plan, leaf, node, number, leaf_node}
 use Rattle.pool.specs.Image.{Arrangement, tree_or, root_or, numbers_or, Arranged, AllBelow, Holds, HoldsTree, HoldsFree, first_of, header_of, Image}
 use Rattle.pool.proofs.Numbers.{below_mem}
 use Rattle.pool.proofs.Frame.{root_in}

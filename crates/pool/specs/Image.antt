@@ -7,7 +7,7 @@ use Rattle.std.proofs.Math.Option.{Option, none, some}
 use Rattle.words.specs.Word.{Bytes}
 use Rattle.nodes.specs.declared.header.Header.{Header}
 use Rattle.nodes.specs.Nodes.{node_at, header_at}
-use Rattle.rules.specs.State.{Entry, State, Lawful}
+use Rattle.rules.specs.State.{State, Lawful}
 use Rattle.rules.specs.Tree.{Tree, empty, tree_of, entries}
 use Rattle.pool.specs.Plan.{Plan, leaf, node, tree_in, number, numbers, no_node, free_node, root_node}
 

@@ -5,7 +5,7 @@ use Rattle.std.proofs.Math.Option.{Option, none, some}
 use Rattle.nodes.specs.declared.node.Node.{Node}
 use Rattle.nodes.specs.Nodes.{inner_node}
 use Rattle.rules.specs.State.{Entry}
-use Rattle.rules.specs.Tree.{Tree, empty, newest, oldest, no_tombstone}
+use Rattle.rules.specs.Tree.{Tree, newest, oldest, no_tombstone}
 
 -- R19: a leaf: its number and its entry; an inner node: its number, height and least number covered, and its subtrees
 pub data Plan : Type 0 where

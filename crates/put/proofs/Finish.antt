@@ -13,7 +13,7 @@ use Rattle.nodes.specs.Nodes.{base, header_at, put_header}
 use Rattle.nodes.specs.Laws.{NodeFits}
 use Rattle.words.specs.Choice.{if◌then◌else◌}
 use Rattle.rules.specs.State.{Entry, Fits, last_position}
-use Rattle.pool.specs.Plan.{Plan, leaf, numbers, leaf_node}
+use Rattle.pool.specs.Plan.{Plan, numbers, leaf_node}
 use Rattle.pool.specs.Image.{Arrangement, Arranged, Image, Holds, HoldsTree, HoldsFree, first_of, header_of, state_of, root_or}
 use Rattle.pool.specs.Times.{times}
 use Rattle.pool.proofs.Numbers.{times_append, times_mem, mem_times, distinct_times, below_mem}

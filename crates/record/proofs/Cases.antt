@@ -9,11 +9,8 @@ use native.Mathlib.Omega.{arith}
 use Rattle.record.specs.declared.point.Point.{Point}
 use Rattle.record.specs.declared.point.Scan.{Scan}
 use Rattle.record.specs.declared.checker.PointStep.{PointStep}
-use Rattle.record.specs.declared.checker.PointStep.TheVariants as PointStep
 use Rattle.record.specs.declared.checker.ScanStep.{ScanStep}
-use Rattle.record.specs.declared.checker.ScanStep.TheVariants as ScanStep
 use Rattle.record.specs.declared.checker.End.{End}
-use Rattle.record.specs.declared.checker.End.TheVariants as End
 use Rattle.record.specs.Parse.{Parsed, bad, took, also, after_point, after_scan, end_of, is_took, list_of, place_of}
 
 -- a test is true or false

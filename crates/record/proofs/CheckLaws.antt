@@ -1,6 +1,6 @@
 -- What `well_formed` and `check` meet at each return: the tests that led there, and what the definition gives.
 -- Assumes nothing.
-use Prim.Native.Nat.{ℕ, zero, suc, ◌+◌, ◌≤◌, ◌<◌}
+use Prim.Native.Nat.{ℕ, zero, suc, ◌+◌, ◌≤◌}
 use mathlib.Core.Path.{◌≡◌, refl, sym, ◌∙◌}
 use mathlib.Core.Option.{Option, none, some}
 use mathlib.Core.List.{List}
@@ -11,9 +11,7 @@ use Rattle.record.specs.declared.point.Point.{Point}
 use Rattle.record.specs.declared.checker.PointStep.{PointStep}
 use Rattle.record.specs.declared.checker.PointStep.TheVariants.{Bad, Next}
 use Rattle.record.specs.declared.checker.End.{End}
-use Rattle.record.specs.declared.checker.End.TheVariants as End
 use Rattle.record.specs.declared.checker.Head.{Head}
-use Rattle.record.specs.declared.checker.Head.TheVariants as Head
 use Rattle.record.specs.Answer.{committed, malformed}
 use Rattle.record.specs.Record.{Rec, key_of}
 use Rattle.record.specs.Parse.{Parsed, took, step_point, after_point, parse_points, parse_scans, end_of, list_of, point_count, scan_count, first_point, head_of, parse, well_formed, check_of}

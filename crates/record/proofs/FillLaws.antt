@@ -11,9 +11,7 @@ use lib.Seq.{sets}
 use Rattle.record.specs.declared.point.Point.{Point}
 use Rattle.record.specs.declared.point.Scan.{Scan}
 use Rattle.record.specs.declared.checker.PointStep.{PointStep}
-use Rattle.record.specs.declared.checker.PointStep.TheVariants as PointStep
 use Rattle.record.specs.declared.checker.ScanStep.{ScanStep}
-use Rattle.record.specs.declared.checker.ScanStep.TheVariants as ScanStep
 use Rattle.record.specs.Record.{key_of}
 use Rattle.record.specs.Parse.{Parsed, bad, also, step_point, step_scan, parse_points, parse_scans, list_of, is_took, place_of}
 use Rattle.record.proofs.Cases.{took_also, place_also, list_also}

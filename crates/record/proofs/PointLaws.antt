@@ -16,7 +16,6 @@ use Rattle.record.specs.declared.point.Point.TheVariants.{Read, Put, Delete}
 use Rattle.record.specs.declared.checker.PointStep.{PointStep}
 use Rattle.record.specs.declared.checker.PointStep.TheVariants.{Bad, Next}
 use Rattle.record.specs.declared.checker.End.{End}
-use Rattle.record.specs.declared.checker.End.TheVariants as End
 use Rattle.record.specs.Record.{key_of}
 use Rattle.record.specs.Parse.{step_point, parse_points, end_of}
 use Rattle.record.proofs.Cases.{by_case, no_point, end_also}

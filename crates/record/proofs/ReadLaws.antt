@@ -13,7 +13,6 @@ use Rattle.record.specs.declared.point.Point.{Point}
 use Rattle.record.specs.declared.point.Scan.{Scan}
 use Rattle.record.specs.declared.reader.Reading.{Reading}
 use Rattle.record.specs.declared.checker.Head.{Head}
-use Rattle.record.specs.declared.checker.Head.TheVariants as Head
 use Rattle.record.specs.Answer.{committed, malformed, output_short}
 use Rattle.record.specs.Record.{kind_of, key_of, payload_of}
 use Rattle.record.specs.Parse.{parse_points, parse_scans, list_of, place_of, parse, well_formed}

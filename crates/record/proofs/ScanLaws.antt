@@ -15,7 +15,6 @@ use Rattle.record.specs.declared.point.Scan.{Scan}
 use Rattle.record.specs.declared.checker.ScanStep.{ScanStep}
 use Rattle.record.specs.declared.checker.ScanStep.TheVariants.{Bad, Next}
 use Rattle.record.specs.declared.checker.End.{End}
-use Rattle.record.specs.declared.checker.End.TheVariants as End
 use Rattle.record.specs.Parse.{step_scan, parse_scans, end_of}
 use Rattle.record.proofs.Cases.{by_case, no_scan_lem, end_also}
 

@@ -10,7 +10,6 @@ use lib.ListN.{length}
 use lib.Dec.{eqb}
 use Rattle.words.specs.Word.{word}
 use Rattle.record.specs.declared.checker.Head.{Head}
-use Rattle.record.specs.declared.checker.Head.TheVariants as Head
 use Rattle.record.specs.Record.{Rec}
 use Rattle.record.specs.Parse.{parse_points, parse_scans, is_took, list_of, place_of, point_count, scan_count, first_point, head_ok, parse, well_formed}
 use Rattle.record.proofs.Cases.{by_case, no_some, took_or, took_end}

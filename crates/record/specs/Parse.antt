@@ -10,13 +10,9 @@ use Rattle.record.specs.declared.point.Point.{Point}
 use Rattle.record.specs.declared.point.Point.TheVariants.{Read, Put, Delete}
 use Rattle.record.specs.declared.point.Scan.{Scan}
 use Rattle.record.specs.declared.checker.PointStep.{PointStep}
-use Rattle.record.specs.declared.checker.PointStep.TheVariants as PointStep
 use Rattle.record.specs.declared.checker.ScanStep.{ScanStep}
-use Rattle.record.specs.declared.checker.ScanStep.TheVariants as ScanStep
 use Rattle.record.specs.declared.checker.End.{End}
-use Rattle.record.specs.declared.checker.End.TheVariants as End
 use Rattle.record.specs.declared.checker.Head.{Head}
-use Rattle.record.specs.declared.checker.Head.TheVariants as Head
 use Rattle.record.specs.Answer.{committed, malformed}
 use Rattle.record.specs.Record.{Rec, key_of, max_points, max_scans, version_for, count_width, head_size}
 

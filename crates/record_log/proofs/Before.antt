@@ -17,7 +17,7 @@ use Rattle.record_log.specs.declared.found.Cut.TheVariants.{End, Torn, Impossibl
 use Rattle.record_log.specs.Log.{cut_at, length_at, min_length, max_length, ends_at, no_length_at, runs_past}
 use Rattle.record_log.specs.Walk as W
 use Rattle.record_log.specs.Walk.{Walks}
-use Rattle.record_log.specs.Before.{CutBefore, ended, broken, whole, cut_before, said_before, EndedBefore, ends, hands, SmallBefore}
+use Rattle.record_log.specs.Before.{ended, broken, whole, cut_before, said_before, EndedBefore, ends, hands, SmallBefore}
 use Rattle.record_log.proofs.Stands.{end_tells, record_tells}
 
 -- where both rules have the same of the length, it is said what was said before

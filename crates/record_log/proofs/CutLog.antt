@@ -6,15 +6,14 @@ use mathlib.Core.Path.{◌≡◌, refl, sym, ap, subst, ◌∙◌}
 use Prim.Native.Nat.{ℕ, ◌+◌, ◌-◌, ◌≤◌, ◌<◌}
 use mathlib.Core.Bool.{false}
 use mathlib.Core.List.{List, [], ◌∷◌, ◌++◌}
-use mathlib.Core.Logic.{◌⊎◌, inl, inr, ⊎_elim}
 use native.Mathlib.Omega.{arith}
 use native.Mathlib.Decide.{dec_le}
-use lib.ListN.{length, get_or, take, drop, length-append, length-drop}
+use lib.ListN.{length, take, drop, length-append, length-drop}
 use lib.Seq.{get_or-take, take-take, take_all, length-take-le}
 use Rattle.record_log.specs.declared.found.Cut.{Cut}
 use Rattle.record_log.specs.declared.found.Cut.TheVariants.{End, Torn, Impossible, Record}
 use Rattle.record_log.specs.Log.{cut_at, length_at, impossible, part_of, RecordAt}
-use Rattle.record_log.specs.Walk.{Walks, ends, tears, hands, joined, Agree, CutLog}
+use Rattle.record_log.specs.Walk.{Walks, ends, tears, hands, joined, CutLog}
 use Rattle.record_log.proofs.Stands.{record_tells, end_tells, end_found, torn_found, apart}
 use Rattle.record_log.proofs.Same.{same_length, cut_same, part_same}
 use Rattle.record_log.proofs.Lengths.{possible_is}

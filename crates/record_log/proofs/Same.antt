@@ -1,13 +1,13 @@
 -- A cut depends only on the record's own bytes: where a record stands at a place of one log, it stands there in every log that has
 -- the same bytes up to its end; and a part of the right size stands wherever its bytes stand.
 -- Assumes nothing.
-use mathlib.Core.Path.{◌≡◌, refl, sym, ap, ◌∙◌}
-use Prim.Native.Nat.{ℕ, ◌+◌, ◌-◌, ◌≤◌, ◌<◌}
-use mathlib.Core.List.{List, [], ◌∷◌, ◌++◌}
+use mathlib.Core.Path.{◌≡◌, sym, ap, ◌∙◌}
+use Prim.Native.Nat.{ℕ, ◌+◌, ◌-◌, ◌≤◌}
+use mathlib.Core.List.{List, ◌++◌}
 use native.Mathlib.Omega.{arith}
-use lib.ListN.{length, get_or, take, drop, length-append, length-take, length-drop, get_or-append}
-use lib.Seq.{get_or-take, get_or-append-add, get_or-drop, take-add, drop_at, length-take-le}
-use Rattle.words.specs.Laws.{word_same, word_drop}
+use lib.ListN.{length, get_or, take, drop, length-append, length-take, get_or-append}
+use lib.Seq.{get_or-take, get_or-append-add, take-add, drop_at, length-take-le}
+use Rattle.words.specs.Laws.{word_same}
 use Rattle.record_log.specs.declared.found.Cut.TheVariants.{Record}
 use Rattle.record_log.specs.Log.{cut_at, length_at, part_of, RecordAt}
 use Rattle.record_log.specs.Walk.{Agree}

@@ -1,8 +1,8 @@
 -- The walk one cut at a time, for a loop that calls `cut` and holds its place: what a cut says decides what is left of the walk.
 -- Assumes nothing.
-use mathlib.Core.Path.{◌≡◌, refl, sym, ap, subst, ◌∙◌}
+use mathlib.Core.Path.{◌≡◌, sym, ap, subst, ◌∙◌}
 use Prim.Native.Nat.{ℕ}
-use mathlib.Core.List.{List, [], ◌∷◌}
+use mathlib.Core.List.{List, ◌∷◌}
 use Rattle.record_log.specs.declared.found.Cut.{Cut}
 use Rattle.record_log.specs.declared.found.Cut.TheVariants.{Record}
 use Rattle.record_log.specs.Log.{cut_at, part_of}

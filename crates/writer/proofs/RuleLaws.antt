@@ -15,9 +15,7 @@ use Rattle.record.specs.declared.point.Scan.{Scan}
 use Rattle.record.specs.declared.checker.PointStep.{PointStep}
 use Rattle.record.specs.declared.checker.PointStep.TheVariants.{Bad, Next}
 use Rattle.record.specs.declared.checker.ScanStep.{ScanStep}
-use Rattle.record.specs.declared.checker.ScanStep.TheVariants as ScanStep
 use Rattle.record.specs.declared.checker.End.{End}
-use Rattle.record.specs.declared.checker.End.TheVariants as End
 use Rattle.record.specs.Record.{key_of}
 use Rattle.record.specs.Parse.{after_point, after_scan, end_of}
 use Rattle.record.proofs.Cases.{by_case, no_point, end_also}

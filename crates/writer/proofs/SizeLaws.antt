@@ -11,7 +11,6 @@ use lib.Dec.{leb}
 use borrow.Author.Tests.{le-leb}
 use Rattle.record.specs.declared.point.Point.{Point}
 use Rattle.record.specs.declared.checker.End.{End}
-use Rattle.record.specs.declared.checker.End.TheVariants as End
 use Rattle.record.specs.Record.{Rec, kind_of, key_of, payload_of, bytes_of, version_for, version_of, head_size}
 use Rattle.record.specs.Parse.{took, end_of, list_of}
 use Rattle.record.specs.Reader.{Lists, lists, low_of, high_of}

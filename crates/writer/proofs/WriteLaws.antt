@@ -9,7 +9,6 @@ use lib.ListN.{length}
 use lib.Seq.{sets, length-sets}
 use borrow.Author.Tests.{le-leb, lt-leb}
 use Rattle.record.specs.declared.checker.End.{End}
-use Rattle.record.specs.declared.checker.End.TheVariants as End
 use Rattle.record.specs.Answer.{committed, malformed, output_short}
 use Rattle.record.specs.Record.{Rec, points_bytes, scans_bytes, body_bytes, bytes_of, version_for, version_of, head_size}
 use Rattle.record.specs.Reader.{Lists, lists, front}

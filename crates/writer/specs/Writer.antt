@@ -8,11 +8,8 @@ use Rattle.record.specs.declared.point.Point.{Point}
 use Rattle.record.specs.declared.point.Point.TheVariants.{Read, Put, Delete}
 use Rattle.record.specs.declared.point.Scan.{Scan}
 use Rattle.record.specs.declared.checker.PointStep.{PointStep}
-use Rattle.record.specs.declared.checker.PointStep.TheVariants as PointStep
 use Rattle.record.specs.declared.checker.ScanStep.{ScanStep}
-use Rattle.record.specs.declared.checker.ScanStep.TheVariants as ScanStep
 use Rattle.record.specs.declared.checker.End.{End}
-use Rattle.record.specs.declared.checker.End.TheVariants as End
 use Rattle.record.specs.Answer.{committed, malformed, output_short}
 use Rattle.record.specs.Record.{Rec, kind_of, key_of, payload_of, max_points, max_scans, version_for, head_size, bytes_of}
 use Rattle.record.specs.Parse.{Parsed, bad, took, after_point, after_scan, on_took}

@@ -1,7 +1,6 @@
 -- `advance` meets its contract: with its position one on the header is that of the arrangement one position on, and nothing else has changed.
 -- Assumes nothing.
 use Rattle.advance.proofs.Moving.{position_left, advance_whole}
-use borrow.Author.Rules.{rules}
 use Rattle.advance.proofs.advance.Goals as goal
 
 pub overflow_add-v : goal.overflow_add-v

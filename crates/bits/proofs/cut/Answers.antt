@@ -4,7 +4,6 @@ use Prim.Native.Nat.{◌^◌, ◌/◌}
 use mathlib.Core.Path.{◌≡◌}
 use native.Mathlib.Nat.{div-mul-le_self}
 use native.Mathlib.Omega.{arith}
-use borrow.Author.Rules.{rules}
 use Rattle.bits.proofs.Part.{cut_fits}
 use Rattle.bits.proofs.cut.Goals as goal
 

@@ -1,7 +1,5 @@
 -- `create::clear` meets its contract. The loop's invariant: the bytes passed are zero, all others as they were (`Cleared`).
 -- Assumes nothing.
-use Prim.Native.Nat.{◌≤◌, ◌-◌}
-use Rattle.create.specs.Steps.{Cleared}
 use Rattle.create.proofs.Laws.{cleared_none, cleared_more, cleared_all}
 use native.Mathlib.Omega.{arith}
 use Rattle.create.proofs.clear.Goals as goal

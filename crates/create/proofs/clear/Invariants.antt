@@ -2,8 +2,6 @@
 -- Assumes nothing.
 use Prim.Native.Nat.{◌≤◌, ◌-◌}
 use Rattle.create.specs.Steps.{Cleared}
-use Rattle.create.proofs.Laws.{cleared_none, cleared_more, cleared_all}
-use native.Mathlib.Omega.{arith}
 use Rattle.create.proofs.clear.Given as goal
 
 abbrev pub invariant-loop-at : goal.invariant-loop-at

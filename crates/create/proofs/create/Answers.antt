@@ -2,7 +2,6 @@
 -- Assumes nothing.
 use Rattle.create.proofs.Laws.{limits_facts, refuses, makes}
 use native.Mathlib.Omega.{arith}
-use borrow.Author.Rules.{rules}
 use Rattle.std.proofs.lemmas.Bool.{not_from_false, not_from_true}
 use Rattle.create.proofs.create.Goals as goal
 

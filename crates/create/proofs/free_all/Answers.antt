@@ -1,7 +1,5 @@
 -- `create::free_all` meets its contract. The loop's invariant: the nodes passed are free (`FreedBefore`). The measure is what is left of the nodes.
 -- Assumes nothing.
-use Prim.Native.Nat.{◌≤◌, ◌-◌}
-use Rattle.create.specs.Steps.{FreedBefore}
 use Rattle.create.proofs.Laws.{freed_none, freed_more, freed_all}
 use native.Mathlib.Omega.{arith}
 use Rattle.create.proofs.free_all.Goals as goal

@@ -2,8 +2,6 @@
 -- Assumes nothing.
 use Prim.Native.Nat.{◌≤◌, ◌-◌}
 use Rattle.create.specs.Steps.{FreedBefore}
-use Rattle.create.proofs.Laws.{freed_none, freed_more, freed_all}
-use native.Mathlib.Omega.{arith}
 use Rattle.create.proofs.free_all.Given as goal
 
 abbrev pub invariant-loop-i : goal.invariant-loop-i

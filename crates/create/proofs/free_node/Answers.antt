@@ -3,7 +3,6 @@
 use Rattle.create.proofs.Laws.{next_last, next_more, free_made}
 use mathlib.Core.Path.{◌∙◌}
 use native.Mathlib.Omega.{arith}
-use borrow.Author.Rules.{rules}
 use Rattle.create.proofs.free_node.Goals as goal
 use Rattle.create.proofs.free_node.Goals.{then-behind-eq0, else-behind-eq0}
 

@@ -2,7 +2,6 @@
 -- Assumes nothing.
 use Rattle.create.proofs.Laws.{low_n, high_n, low_z, high_z, in_range}
 use native.Mathlib.Omega.{arith}
-use borrow.Author.Rules.{rules}
 use Rattle.create.proofs.limits_hold.Goals as goal
 
 pub returns-then-n-lt1 : goal.returns-then-n-lt1

@@ -1,6 +1,5 @@
 -- The words of a leaf are its entry's.
 -- Assumes nothing.
-use borrow.Author.Rules.{rules}
 use Rattle.find.proofs.Descent.{leaf_other, leaf_dead, leaf_live}
 use Rattle.find.proofs.at_leaf.Goals as goal
 

@@ -1,6 +1,5 @@
 -- The root's word says whether a key is kept; if one is, the descent starts at the whole tree.
 -- Assumes nothing.
-use borrow.Author.Rules.{rules}
 use Rattle.find.proofs.Descent.{at_none, at_root, root_there}
 use Rattle.find.proofs.find.Goals as goal
 

@@ -1,9 +1,8 @@
 -- The power is below 2 ^ 32, so nothing wraps.
 -- Assumes nothing.
-use Prim.Native.Nat.{◌-◌, ◌^◌}
+use Prim.Native.Nat.{◌-◌}
 use native.Mathlib.Omega.{arith}
 use lib.Pow.{shl_exact, pow_mono}
-use borrow.Author.Rules.{rules}
 use Rattle.find.proofs.middle.Goals as goal
 
 pub overflow_add-result : goal.overflow_add-result

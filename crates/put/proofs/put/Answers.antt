@@ -1,6 +1,5 @@
 -- `put::put` meets its contract. Each place is one law of `Whole`.
 -- Assumes nothing.
-use borrow.Author.Rules.{rules}
 use Rattle.put.proofs.Whole.{first_asks, second_asks, first_leaf_asks, first_leaf, put_at_asks, new_asks, new_case, old_case}
 use Rattle.put.proofs.put.Goals as goal
 

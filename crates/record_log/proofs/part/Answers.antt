@@ -1,7 +1,6 @@
 -- `record_log::part` meets its contract: what `cut` promises gives the range's bounds, and the part that is handed out (Handed.antt).
 -- Assumes nothing.
 use native.Mathlib.Omega.{arith}
-use borrow.Author.Rules.{rules}
 use borrow.Enum.Refused.{opened}
 use Rattle.record_log.proofs.Told.{cut_case}
 use Rattle.record_log.proofs.Handed.{stands, hands_none, hands_record}

@@ -1,7 +1,6 @@
 -- `drop_old` meets its contract: the header names the tree and the first free node, whose rank is the number of free nodes; after the drop
 -- the header's words are those of the arrangement without its old tombstones.
 -- Assumes nothing.
-use borrow.Author.Rules.{rules}
 use Rattle.drop.proofs.Whole.{nothing_kept, free_room, ready, keys_asks, drop_whole}
 use Rattle.drop.proofs.tombstones.drop_old.Goals as goal
 

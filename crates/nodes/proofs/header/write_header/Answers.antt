@@ -1,6 +1,5 @@
 -- `nodes::write_header` meets its promise: the header's words are stored one behind the other (Fields.antt).
 use Rattle.nodes.proofs.Fields.{header_written}
-use borrow.Author.Rules.{rules}
 use Rattle.nodes.proofs.header.write_header.Goals as goal
 
 pub returns : goal.returns

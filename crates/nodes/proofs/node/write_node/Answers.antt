@@ -1,6 +1,5 @@
 -- `nodes::write_node` meets its promise: the node's words are stored one behind the other (Fields.antt).
 use Rattle.nodes.proofs.Fields.{node_written}
-use borrow.Author.Rules.{rules}
 use Rattle.nodes.proofs.node.write_node.Goals as goal
 
 pub returns : goal.returns

@@ -1,6 +1,5 @@
 -- `put::tree::covers` meets its contract: a key from low on is covered if no bit of its distance stands above the height.
 -- Assumes nothing.
-use borrow.Author.Rules.{rules}
 use Rattle.put.proofs.Covering.{covered_below, covered_above}
 use Rattle.put.proofs.tree.covers.Goals as goal
 

@@ -1,6 +1,5 @@
 -- `put::tree::split` meets its contract.
 -- Assumes nothing.
-use borrow.Author.Rules.{rules}
 use Rattle.bits.proofs.Part.{part_most}
 use Rattle.put.proofs.Splitting.{split_left, split_right}
 use Rattle.put.proofs.tree.split.Goals as goal

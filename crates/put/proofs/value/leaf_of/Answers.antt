@@ -2,7 +2,6 @@
 -- Assumes nothing.
 use mathlib.Core.Path.{sym, ap, subst, ◌∙◌}
 use native.Mathlib.Omega.{arith}
-use borrow.Author.Rules.{rules}
 use Rattle.rules.specs.State.{Fits}
 use Rattle.pool.specs.Plan.{leaf_node}
 use Rattle.put.specs.declared.value.Value.{Value}

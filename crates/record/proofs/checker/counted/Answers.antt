@@ -2,7 +2,6 @@
 -- Assumes nothing.
 use native.Mathlib.Omega.{arith}
 use Rattle.record.proofs.HeadLaws.{counted_points, counted_scans, counted_other, counted_right}
-use borrow.Author.Rules.{rules}
 use Rattle.record.proofs.checker.counted.Goals as goal
 
 pub returns-then-points-gt-MAX_POINTS : goal.returns-then-points-gt-MAX_POINTS

@@ -1,9 +1,5 @@
 -- `points_end` meets its contract. The loop's invariant: what is left to parse, from this place on, ends where the whole run ends.
 -- The measure is how many points are left. Assumes nothing.
-use Prim.Native.Nat.{◌≤◌}
-use mathlib.Core.Path.{◌≡◌}
-use lib.ListN.{length}
-use Rattle.record.specs.Parse.{parse_points, end_of}
 use Rattle.record.proofs.PointLaws.{points_bad, points_next, points_size, points_fits, points_none}
 use borrow.Author.Rules.{rules}
 use Rattle.record.proofs.checker.points_end.Goals as goal

@@ -4,8 +4,6 @@ use Prim.Native.Nat.{◌≤◌}
 use mathlib.Core.Path.{◌≡◌}
 use lib.ListN.{length}
 use Rattle.record.specs.Parse.{parse_points, end_of}
-use Rattle.record.proofs.PointLaws.{points_bad, points_next, points_size, points_fits, points_none}
-use borrow.Author.Rules.{rules}
 use Rattle.record.proofs.checker.points_end.Given as goal
 
 abbrev pub invariant-loop-left : goal.invariant-loop-left

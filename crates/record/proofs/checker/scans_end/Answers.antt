@@ -1,9 +1,5 @@
 -- `scans_end` meets its contract. The loop's invariant: what is left to parse, from this place on, ends where the whole run ends.
 -- The measure is how many scans are left. Assumes nothing.
-use Prim.Native.Nat.{◌≤◌}
-use mathlib.Core.Path.{◌≡◌}
-use lib.ListN.{length}
-use Rattle.record.specs.Parse.{parse_scans, end_of}
 use Rattle.record.proofs.ScanLaws.{scans_bad, scans_next, scans_size, scans_fits, scans_none}
 use borrow.Author.Rules.{rules}
 use Rattle.record.proofs.checker.scans_end.Goals as goal

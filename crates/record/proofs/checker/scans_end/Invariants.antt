@@ -4,8 +4,6 @@ use Prim.Native.Nat.{◌≤◌}
 use mathlib.Core.Path.{◌≡◌}
 use lib.ListN.{length}
 use Rattle.record.specs.Parse.{parse_scans, end_of}
-use Rattle.record.proofs.ScanLaws.{scans_bad, scans_next, scans_size, scans_fits, scans_none}
-use borrow.Author.Rules.{rules}
 use Rattle.record.proofs.checker.scans_end.Given as goal
 
 abbrev pub invariant-loop-left : goal.invariant-loop-left

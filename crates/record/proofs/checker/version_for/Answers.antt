@@ -2,7 +2,6 @@
 -- Assumes nothing.
 use native.Mathlib.Omega.{arith}
 use Rattle.record.proofs.HeadLaws.{version_many_points, version_many_scans, version_few}
-use borrow.Author.Rules.{rules}
 use Rattle.record.proofs.checker.version_for.Goals as goal
 
 pub returns-then-points-gt-SMALL_POINTS : goal.returns-then-points-gt-SMALL_POINTS

@@ -1,14 +1,6 @@
 -- `fill_points` meets its contract. The loop's invariant: all the stores on the lists as they were are the stores that are left on the lists as they are.
 -- The measure is how many points are left. Assumes nothing.
-use Prim.Native.Nat.{◌-◌, ◌≤◌}
-use mathlib.Core.Path.{◌≡◌}
-use mathlib.Core.Bool.{true}
-use mathlib.Core.List.{map}
 use native.Mathlib.Nat.{sub-zero}
-use lib.ListN.{length}
-use lib.Seq.{sets}
-use Rattle.record.specs.Record.{kind_of, key_of, payload_of}
-use Rattle.record.specs.Parse.{parse_points, is_took, place_of, list_of}
 use Rattle.record.proofs.PointLaws.{points_size, points_fits}
 use Rattle.record.proofs.FillLaws.{fill_no, fill_whole, fill_place, fill_list, done_place, done_list}
 use borrow.Author.Rules.{rules}

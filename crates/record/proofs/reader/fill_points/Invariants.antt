@@ -4,14 +4,10 @@ use Prim.Native.Nat.{◌-◌, ◌≤◌}
 use mathlib.Core.Path.{◌≡◌}
 use mathlib.Core.Bool.{true}
 use mathlib.Core.List.{map}
-use native.Mathlib.Nat.{sub-zero}
 use lib.ListN.{length}
 use lib.Seq.{sets}
 use Rattle.record.specs.Record.{kind_of, key_of, payload_of}
 use Rattle.record.specs.Parse.{parse_points, is_took, place_of, list_of}
-use Rattle.record.proofs.PointLaws.{points_size, points_fits}
-use Rattle.record.proofs.FillLaws.{fill_no, fill_whole, fill_place, fill_list, done_place, done_list}
-use borrow.Author.Rules.{rules}
 use Rattle.record.proofs.reader.fill_points.Given as goal
 
 abbrev pub invariant-loop-i : goal.invariant-loop-i

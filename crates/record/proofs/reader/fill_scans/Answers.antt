@@ -1,14 +1,6 @@
 -- `fill_scans` meets its contract. The loop's invariant: all the stores on the lists as they were are the stores that are left on the lists as they are.
 -- The measure is how many scans are left. Assumes nothing.
-use Prim.Native.Nat.{◌-◌, ◌≤◌}
-use mathlib.Core.Path.{◌≡◌}
-use mathlib.Core.Bool.{true}
-use mathlib.Core.List.{map}
 use native.Mathlib.Nat.{sub-zero}
-use lib.ListN.{length}
-use lib.Seq.{sets}
-use Rattle.record.specs.Parse.{parse_scans, is_took, list_of}
-use Rattle.record.specs.Reader.{low_of, high_of}
 use Rattle.record.proofs.ScanLaws.{scans_size, scans_fits}
 use Rattle.record.proofs.FillLaws.{scan_no, scan_whole, scan_list, scan_done}
 use borrow.Author.Rules.{rules}

@@ -4,14 +4,10 @@ use Prim.Native.Nat.{◌-◌, ◌≤◌}
 use mathlib.Core.Path.{◌≡◌}
 use mathlib.Core.Bool.{true}
 use mathlib.Core.List.{map}
-use native.Mathlib.Nat.{sub-zero}
 use lib.ListN.{length}
 use lib.Seq.{sets}
 use Rattle.record.specs.Parse.{parse_scans, is_took, list_of}
 use Rattle.record.specs.Reader.{low_of, high_of}
-use Rattle.record.proofs.ScanLaws.{scans_size, scans_fits}
-use Rattle.record.proofs.FillLaws.{scan_no, scan_whole, scan_list, scan_done}
-use borrow.Author.Rules.{rules}
 use Rattle.record.proofs.reader.fill_scans.Given as goal
 
 abbrev pub invariant-loop-i : goal.invariant-loop-i

@@ -1,10 +1,5 @@
 -- `points_end` meets its contract. The loop's invariant: what is left of the lists, from this place on, ends where the whole run ends.
 -- The measure is how many points are left. Assumes nothing.
-use Prim.Native.Nat.{◌+◌, ◌*◌, ◌-◌, ◌≤◌}
-use mathlib.Core.Path.{◌≡◌}
-use lib.ListN.{length, drop}
-use Rattle.record.specs.Parse.{end_of}
-use Rattle.writer.specs.Writer.{named_points}
 use Rattle.writer.proofs.RuleLaws.{named_bad, named_next, named_place, named_fits, named_none}
 use borrow.Author.Rules.{rules}
 use Rattle.writer.proofs.rules.points_end.Goals as goal

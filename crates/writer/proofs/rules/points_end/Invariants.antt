@@ -5,8 +5,6 @@ use mathlib.Core.Path.{◌≡◌}
 use lib.ListN.{length, drop}
 use Rattle.record.specs.Parse.{end_of}
 use Rattle.writer.specs.Writer.{named_points}
-use Rattle.writer.proofs.RuleLaws.{named_bad, named_next, named_place, named_fits, named_none}
-use borrow.Author.Rules.{rules}
 use Rattle.writer.proofs.rules.points_end.Given as goal
 
 abbrev pub invariant-loop-i : goal.invariant-loop-i

@@ -1,10 +1,5 @@
 -- `scans_end` meets its contract. The loop's invariant: what is left of the lists, from this place on, ends where the whole run ends.
 -- The measure is how many scans are left. Assumes nothing.
-use Prim.Native.Nat.{◌+◌, ◌*◌, ◌-◌, ◌≤◌}
-use mathlib.Core.Path.{◌≡◌}
-use lib.ListN.{length, drop}
-use Rattle.record.specs.Parse.{end_of}
-use Rattle.writer.specs.Writer.{named_scans}
 use Rattle.writer.proofs.RuleLaws.{scan_named_bad, scan_named_turn, scan_named_none}
 use borrow.Author.Rules.{rules}
 use Rattle.writer.proofs.rules.scans_end.Goals as goal

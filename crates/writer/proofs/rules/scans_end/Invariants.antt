@@ -5,8 +5,6 @@ use mathlib.Core.Path.{◌≡◌}
 use lib.ListN.{length, drop}
 use Rattle.record.specs.Parse.{end_of}
 use Rattle.writer.specs.Writer.{named_scans}
-use Rattle.writer.proofs.RuleLaws.{scan_named_bad, scan_named_turn, scan_named_none}
-use borrow.Author.Rules.{rules}
 use Rattle.writer.proofs.rules.scans_end.Given as goal
 
 abbrev pub invariant-loop-i : goal.invariant-loop-i

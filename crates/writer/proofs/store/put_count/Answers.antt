@@ -1,6 +1,6 @@
 -- `put_count` meets its contract: one byte, or two.
 -- Assumes nothing.
-use Rattle.writer.proofs.StoreLaws.{count_one, count_two, one_room, one_fits, two_room, two_fits}
+use Rattle.writer.proofs.StoreLaws.{count_one, count_two, one_fits, two_room, two_fits}
 use borrow.Author.Rules.{rules}
 use Rattle.writer.proofs.store.put_count.Goals as goal
 

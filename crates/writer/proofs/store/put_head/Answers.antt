@@ -1,6 +1,6 @@
 -- `put_head` meets its contract: its five stores are one run of bytes.
 -- Assumes nothing.
-use Rattle.writer.proofs.StoreLaws.{head_snapshot, head_points, head_scans, head_same, head_stored}
+use Rattle.writer.proofs.StoreLaws.{head_snapshot, head_points, head_scans, head_stored}
 use borrow.Author.Rules.{rules}
 use Rattle.writer.proofs.store.put_head.Goals as goal
 

@@ -1,6 +1,6 @@
 -- `put_point` meets its contract: its stores are one run, with the payload for a put and without it for others.
 -- Assumes nothing.
-use Rattle.writer.proofs.StoreLaws.{other_size, put_size, point_first, point_key, point_payload, point_same, point_same_put, point_stored_other, point_stored_put}
+use Rattle.writer.proofs.StoreLaws.{other_size, put_size, point_first, point_key, point_payload, point_stored_other, point_stored_put}
 use borrow.Author.Rules.{rules}
 use Rattle.writer.proofs.store.put_point.Goals as goal
 

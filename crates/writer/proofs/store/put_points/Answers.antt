@@ -1,10 +1,5 @@
 -- `put_points` meets its contract. The loop's invariant: all the stores on the output as it was are the stores that are left on the output as it is.
 -- The measure is how many points are left. Assumes nothing.
-use Prim.Native.Nat.{◌+◌, ◌-◌, ◌≤◌}
-use mathlib.Core.Path.{◌≡◌}
-use lib.ListN.{length, drop}
-use lib.Seq.{sets}
-use Rattle.writer.specs.Stored.{stored_points}
 use Rattle.writer.proofs.StoreLaws.{turn_same, points_room, points_place, points_bytes_lem, points_done_place, points_done}
 use borrow.Author.Rules.{rules}
 use Rattle.writer.proofs.store.put_points.Goals as goal

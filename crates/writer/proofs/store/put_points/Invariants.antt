@@ -5,8 +5,6 @@ use mathlib.Core.Path.{◌≡◌}
 use lib.ListN.{length, drop}
 use lib.Seq.{sets}
 use Rattle.writer.specs.Stored.{stored_points}
-use Rattle.writer.proofs.StoreLaws.{turn_same, points_room, points_place, points_bytes_lem, points_done_place, points_done}
-use borrow.Author.Rules.{rules}
 use Rattle.writer.proofs.store.put_points.Given as goal
 
 abbrev pub invariant-loop-i : goal.invariant-loop-i

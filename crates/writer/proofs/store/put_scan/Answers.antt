@@ -1,6 +1,6 @@
 -- `put_scan` meets its contract: its two stores are one run.
 -- Assumes nothing.
-use Rattle.writer.proofs.StoreLaws.{scan_high_room, scan_same, scan_stored}
+use Rattle.writer.proofs.StoreLaws.{scan_high_room, scan_stored}
 use borrow.Author.Rules.{rules}
 use Rattle.writer.proofs.store.put_scan.Goals as goal
 

@@ -1,10 +1,5 @@
 -- `put_scans` meets its contract. The loop's invariant: all the stores on the output as it was are the stores that are left on the output as it is.
 -- The measure is how many scans are left. Assumes nothing.
-use Prim.Native.Nat.{◌+◌, ◌-◌, ◌≤◌}
-use mathlib.Core.Path.{◌≡◌}
-use lib.ListN.{length, drop}
-use lib.Seq.{sets}
-use Rattle.writer.specs.Stored.{stored_scans}
 use Rattle.writer.proofs.StoreLaws.{turn_same, scans_room, scans_fits, scans_place, scans_bytes_lem, scans_done}
 use borrow.Author.Rules.{rules}
 use Rattle.writer.proofs.store.put_scans.Goals as goal

@@ -5,8 +5,6 @@ use mathlib.Core.Path.{◌≡◌}
 use lib.ListN.{length, drop}
 use lib.Seq.{sets}
 use Rattle.writer.specs.Stored.{stored_scans}
-use Rattle.writer.proofs.StoreLaws.{turn_same, scans_room, scans_fits, scans_place, scans_bytes_lem, scans_done}
-use borrow.Author.Rules.{rules}
 use Rattle.writer.proofs.store.put_scans.Given as goal
 
 abbrev pub invariant-loop-i : goal.invariant-loop-i
