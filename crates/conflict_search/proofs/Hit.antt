@@ -19,7 +19,7 @@ use Rattle.rules.specs.Verdict.{hits}
 use Rattle.rules.specs.Tree.{entries, walk}
 use Rattle.rules.proofs.Tests.{test, is_true, is_false}
 use Rattle.rules.proofs.Search.{walk_sound, walk_complete}
-use Rattle.pool.specs.Plan.{Plan, leaf, node, tree_in, number, numbers, no_node}
+use Rattle.pool.specs.Plan.{Plan, leaf, node, tree_in, numbers, no_node}
 use Rattle.pool.specs.Subtree.{StandsAt}
 use Rattle.pool.proofs.Numbers.{below_mem}
 use Rattle.conflict_search.specs.Conflict.{Leaf, leaves_of, first_hit}

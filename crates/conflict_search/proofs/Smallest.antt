@@ -1,7 +1,7 @@
 -- The leaf that the search names is the one with the smallest key that is hit.
 -- The idea: the leaves stand in the order of their keys, so the first that is hit from the left has the smallest key.
 -- Assumes nothing.
-use Prim.Native.Nat.{ℕ, ◌+◌, ◌*◌, ◌^◌, ◌≤◌}
+use Prim.Native.Nat.{ℕ, ◌^◌, ◌≤◌}
 use mathlib.Core.Path.{◌≡◌, refl, sym, ap, ◌∙◌, subst}
 use mathlib.Core.Logic.{⊎_elim}
 use mathlib.Core.Bool.{not}
@@ -12,17 +12,16 @@ use mathlib.Core.List.Memᴰ.{head as here}
 use mathlib.Core.List.Memᴰ.{tail as there}
 use mathlib.Core.List.{List, [], ◌∷◌, ◌++◌, map, Memᴰ as Mem}
 use native.Mathlib.Omega.{arith}
-use lib.ListN.{length}
 use lib.Dec.{T, T_not}
 use Rattle.record.specs.declared.point.Scan.{Scan}
 use Rattle.nodes.specs.Nodes.{node_at}
-use Rattle.rules.specs.State.{Entry, Rising, end, link}
+use Rattle.rules.specs.State.{Entry, Rising, link}
 use Rattle.rules.specs.Verdict.{hits}
 use Rattle.rules.specs.Tree.{entries}
 use Rattle.rules.proofs.Tests.{test, is_true, is_false, mem_map}
 use Rattle.rules.proofs.Sorted.{rising_mem}
-use Rattle.pool.specs.Plan.{Plan, leaf, node, tree_in, numbers, leaf_node}
-use Rattle.pool.specs.Image.{Arrangement, Image, Holds, HoldsTree, AllBelow, state_of, tree_or, numbers_or}
+use Rattle.pool.specs.Plan.{Plan, leaf, node, tree_in, leaf_node}
+use Rattle.pool.specs.Image.{Arrangement, Image, Holds, HoldsTree, state_of, tree_or, numbers_or}
 use Rattle.pool.proofs.Numbers.{below_mem}
 use Rattle.pool.proofs.Words.{leaf_low, leaf_newest}
 use Rattle.conflict_search.specs.Conflict.{Leaf, leaves_of, leaves_or, first_hit}

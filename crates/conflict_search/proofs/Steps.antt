@@ -56,8 +56,8 @@ module _ {m : List ℕ} {i : ℕ} {n : Node} (e : n ≡ node_at m i) (s : ℕ) {
     looks = λ T st. sym (ap (λ (x : Walked). x.looks) (f T st));
     point_on = a;
     scan_on = b;
-    point_in_lem = a';
-    scan_in_lem = b';
+    point_in = a';
+    scan_in = b';
     points = passed_more keys (omega arith) u;
     scans = passed_more highs (omega arith) v;
   }
@@ -65,7 +65,7 @@ module _ {m : List ℕ} {i : ℕ} {n : Node} (e : n ≡ node_at m i) (s : ℕ) {
   -- newest is not above s
   pub at_old : n.newest ≤ s → SearchedBelow m i s keys lows highs point scan (record { leaf = no_node; looks = 1; point = point; scan = scan })
   at_old h = stopped (λ T st. stop_old s (footprint keys lows highs) T (omega (arith, ap (λ (x : Node). x.newest) (reads T st))))
-      (omega arith) (omega arith) w.point_in_lem w.scan_in_lem w.points w.scans
+      (omega arith) (omega arith) w.point_in w.scan_in w.points w.scans
 
   module _ {p c t : ℕ} {b : Bool} (x : Reached keys point n.low p) (y : Reached highs scan n.low c)
       (z : t ≡ n.low + 2 ^ n.height) (u : b ≡ below_at keys p t || below_at lows c t) where
@@ -102,8 +102,8 @@ module _ {m : List ℕ} {i : ℕ} {n : Node} (e : n ≡ node_at m i) (s : ℕ) {
         looks = λ T st. (at T st).1;
         point_on = x.on;
         scan_on = y.on;
-        point_in_lem = x.within;
-        scan_in_lem = y.within;
+        point_in = x.within;
+        scan_in = y.within;
         points = passed_more keys (omega (arith, start_is)) points_passed;
         scans = passed_more highs (omega (arith, start_is)) scans_passed;
       }
@@ -127,8 +127,8 @@ module _ {m : List ℕ} {i : ℕ} {n : Node} (e : n ≡ node_at m i) (s : ℕ) {
         ready_left = subst (λ (j : ℕ). SearchReady m j keys lows highs p c) (sym left_is) (record {
           rooted = kids.left;
           sorted = w.sorted;
-          point_in_lem = x.within;
-          scan_in_lem = y.within;
+          point_in = x.within;
+          scan_in = y.within;
           points = passed_more keys (omega (arith, start_is, kids.left_from)) points_passed;
           scans = passed_more highs (omega (arith, start_is, kids.left_from)) scans_passed;
         })
@@ -147,8 +147,8 @@ module _ {m : List ℕ} {i : ℕ} {n : Node} (e : n ≡ node_at m i) (s : ℕ) {
             looks = λ T st. (go T st).1;
             point_on = omega (arith, x.on, left_done.point_on);
             scan_on = omega (arith, y.on, left_done.scan_on);
-            point_in_lem = left_done.point_in_lem;
-            scan_in_lem = left_done.scan_in_lem;
+            point_in = left_done.point_in;
+            scan_in = left_done.scan_in;
             points = passed_more keys (omega (arith, kids.left_to, kids.right_from, kids.right_to)) left_done.points;
             scans = passed_more highs (omega (arith, kids.left_to, kids.right_from, kids.right_to)) left_done.scans;
           }
@@ -163,8 +163,8 @@ module _ {m : List ℕ} {i : ℕ} {n : Node} (e : n ≡ node_at m i) (s : ℕ) {
           ready_right = subst (λ (j : ℕ). SearchReady m j keys lows highs a.point a.scan) (sym right_is) (record {
             rooted = kids.right;
             sorted = w.sorted;
-            point_in_lem = left_done.point_in_lem;
-            scan_in_lem = left_done.scan_in_lem;
+            point_in = left_done.point_in;
+            scan_in = left_done.scan_in;
             points = passed_more keys (omega (arith, kids.left_to, kids.right_from)) left_done.points;
             scans = passed_more highs (omega (arith, kids.left_to, kids.right_from)) left_done.scans;
           })
@@ -180,8 +180,8 @@ module _ {m : List ℕ} {i : ℕ} {n : Node} (e : n ≡ node_at m i) (s : ℕ) {
             looks = λ T st. (go T st).1;
             point_on = omega (arith, x.on, left_done.point_on, right_done.point_on);
             scan_on = omega (arith, y.on, left_done.scan_on, right_done.scan_on);
-            point_in_lem = right_done.point_in_lem;
-            scan_in_lem = right_done.scan_in_lem;
+            point_in = right_done.point_in;
+            scan_in = right_done.scan_in;
             points = passed_more keys kids.right_to right_done.points;
             scans = passed_more highs kids.right_to right_done.scans;
           }

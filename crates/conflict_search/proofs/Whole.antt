@@ -32,8 +32,8 @@ module _ (m : List ℕ) {h : Header} (e : h ≡ header_at m) where
   root_ready d f s = record {
     rooted = subst (λ (j : ℕ). Rooted m j) (sym root_is) (root_rooted f (λ z. d (root_is ∙ z)));
     sorted = s;
-    point_in_lem = omega arith;
-    scan_in_lem = omega arith;
+    point_in = omega arith;
+    scan_in = omega arith;
     points = λ k l. absurd (omega arith);
     scans = λ k l. absurd (omega arith);
   }

@@ -17,8 +17,8 @@ progressed leaf looks point scan = record { leaf = leaf; looks = looks; point = 
 pub record SearchReady (m : List ℕ) (i : ℕ) (keys lows highs : List ℕ) (point scan : ℕ) : Type 0 where
   pub rooted : Rooted m i
   pub sorted : Sorted keys lows highs
-  pub point_in_lem : point ≤ length keys
-  pub scan_in_lem : scan ≤ length highs
+  pub point_in : point ≤ length keys
+  pub scan_in : scan ≤ length highs
   pub points : Passed keys point (start_at m i)
   pub scans : Passed highs scan (start_at m i)
 
@@ -28,7 +28,7 @@ pub record SearchedBelow (m : List ℕ) (i s : ℕ) (keys lows highs : List ℕ)
   pub looks : (T : Plan) → StandsAt m i T → r.looks ≡ (walk s (footprint keys lows highs) (tree_in T)).looks
   pub point_on : point ≤ r.point
   pub scan_on : scan ≤ r.scan
-  pub point_in_lem : r.point ≤ length keys
-  pub scan_in_lem : r.scan ≤ length highs
+  pub point_in : r.point ≤ length keys
+  pub scan_in : r.scan ≤ length highs
   pub points : Passed keys r.point (end_at m i)
   pub scans : Passed highs r.scan (end_at m i)

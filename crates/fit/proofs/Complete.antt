@@ -22,7 +22,7 @@ use Rattle.pool.specs.Plan.{Plan, leaf, node, tree_in, number, numbers, leaf_nod
 use Rattle.pool.specs.Image.{AllBelow, Holds}
 use Rattle.pool.proofs.Words.{newest_held, oldest_held}
 use Rattle.pool.proofs.Placed.{Placed, at_leaf, at_node, not_higher}
-use Rattle.fit.specs.Check.{leaf_ok, cover_middle, cover_end, both, leaves_at}
+use Rattle.fit.specs.Check.{leaf_ok, cover_middle, cover_end, leaves_at}
 use Rattle.fit.proofs.Tests.{leaf_true}
 use Rattle.fit.proofs.InnerTests.{InnerFacts}
 use Rattle.fit.proofs.LeavesLaws.{stepped, both_sum}
@@ -73,7 +73,7 @@ module _ (m : List ℕ) (nodes : ℕ) where
           no_kind = ap (λ (n : Node). n.kind) e;
           no_spare = ap (λ (n : Node). n.spare) e;
         };
-        left_in_lem = omega (arith, dl, root_below nodes l (below_left nodes (numbers l) (numbers r) b.1));
+        left_in = omega (arith, dl, root_below nodes l (below_left nodes (numbers l) (numbers r) b.1));
         right_in = omega (arith, dr, root_below nodes r (below_right nodes (numbers l) (numbers r) b.1));
         sums = record {
           is_newest = ap (λ (n : Node). n.newest) e ∙ sym (ap₂ max (ap (λ (j : ℕ). (node_at m j).newest) dl ∙ newest_held m l q.1) (ap (λ (j : ℕ). (node_at m j).newest) dr ∙ newest_held m r q.2));

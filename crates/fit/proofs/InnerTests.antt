@@ -86,7 +86,7 @@ module _ (n l r : Node) (x y : ℕ) where
 -- an inner node with its children
 pub record InnerFacts (m : List ℕ) (nodes i from to : ℕ) : Type 0 where
   pub own : Own (node_at m i) from to
-  pub left_in_lem : (node_at m i).left < nodes
+  pub left_in : (node_at m i).left < nodes
   pub right_in : (node_at m i).right < nodes
   pub sums : Sums (node_at m i) (node_at m (node_at m i).left) (node_at m (node_at m i).right)
 
@@ -94,7 +94,7 @@ module _ (m : List ℕ) (nodes i from to : ℕ) where
   pub inner_true : InnerFacts m nodes i from to → inner_ok m nodes i from to ≡ true
   unfolding inner_ok
   inner_true f =
-      rw (own_true (node_at m i) from to f.own, lt-ltb (node_at m i).left nodes f.left_in_lem, lt-ltb (node_at m i).right nodes f.right_in)
+      rw (own_true (node_at m i) from to f.own, lt-ltb (node_at m i).left nodes f.left_in, lt-ltb (node_at m i).right nodes f.right_in)
       (sums_true _ _ _ f.sums)
 
   pub inner_facts : inner_ok m nodes i from to ≡ true → InnerFacts m nodes i from to
@@ -105,7 +105,7 @@ module _ (m : List ℕ) (nodes i from to : ℕ) where
       let c = and_both (ltb (node_at m i).right nodes) _ b.1 in
       record {
         own = own_facts (node_at m i) from to a.0;
-        left_in_lem = ltb-true (node_at m i).left nodes b.0;
+        left_in = ltb-true (node_at m i).left nodes b.0;
         right_in = ltb-true (node_at m i).right nodes c.0;
         sums = sums_facts _ _ _ c.1;
       }
@@ -119,7 +119,7 @@ module _ (m : List ℕ) (nodes i from to : ℕ) where
         own_stops f = Rattle.fit.proofs.Tests.differ (sym (own_true n from to (rw e f)) ∙ sym x ∙ not-true b h)
 
     pub inner_left : nodes ≤ n.left → false ≡ inner_ok m nodes i from to
-    inner_left h = is_false (inner_ok m nodes i from to) (λ t. omega (arith, (inner_facts t).left_in_lem, ap (λ (z : Node). z.left) e))
+    inner_left h = is_false (inner_ok m nodes i from to) (λ t. omega (arith, (inner_facts t).left_in, ap (λ (z : Node). z.left) e))
 
     pub inner_right : nodes ≤ n.right → false ≡ inner_ok m nodes i from to
     inner_right h = is_false (inner_ok m nodes i from to) (λ t. omega (arith, (inner_facts t).right_in, ap (λ (z : Node). z.right) e))

@@ -1,23 +1,22 @@
 -- The whole check passes exactly where the bytes are the image of an arrangement.
 -- Assumes nothing.
-use Prim.Native.Nat.{ℕ, zero, ◌+◌, ◌-◌, ◌*◌, ◌≤◌, ◌<◌}
+use Prim.Native.Nat.{ℕ, ◌+◌, ◌-◌, ◌*◌, ◌≤◌, ◌<◌}
 use mathlib.Core.Path.{◌≡◌, refl, sym, ap, ◌∙◌, subst}
 use mathlib.Core.Bool.{Bool, true, false, not, ◌&&◌}
 use mathlib.Core.List.{List, ◌++◌, Memᴰ as Mem}
-use mathlib.Core.Logic.{◌⊎◌, ⊎_elim}
+use mathlib.Core.Logic.{⊎_elim}
 use mathlib.Core.Option.{Option, none, some}
 use native.Mathlib.Omega.{arith}
 use lib.Dec.{ltb, leb, eqb}
 use lib.ListN.{length, length-append}
 use borrow.Author.Tests.{ltb-true, leb-true, eqb-true, eqb-false, lt-ltb, le-leb, eq-eqb, ne_eqb, not-false}
 use Rattle.words.specs.Word.{Bytes}
-use Rattle.nodes.specs.declared.node.Node.{Node}
 use Rattle.nodes.specs.declared.header.Header.{Header}
 use Rattle.nodes.specs.Nodes.{node_at, header_at}
 use Rattle.nodes.specs.Laws.{header_fits}
 use Rattle.words.specs.Choice.{if◌then◌else◌}
 use Rattle.rules.specs.State.{Entry, Rising}
-use Rattle.rules.specs.Tree.{Tree, tree_of, entries, newest}
+use Rattle.rules.specs.Tree.{entries, newest}
 use Rattle.rules.proofs.Tests.{le_or_lt}
 use Rattle.rules.proofs.Newest.{newest_max, newest_leaf}
 use Rattle.rules.specs.Shape.{Canonical}

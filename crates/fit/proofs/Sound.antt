@@ -1,6 +1,6 @@
 -- Where the check finds leaves, the bytes hold a tree of the shape, with as many leaves.
 -- Assumes nothing.
-use Prim.Native.Nat.{ℕ, zero, suc, ◌+◌, ◌-◌, ◌*◌, ◌^◌, ◌≤◌, ◌<◌, max, min}
+use Prim.Native.Nat.{ℕ, zero, suc, ◌+◌, ◌*◌, ◌^◌, ◌≤◌, ◌<◌, max, min}
 use mathlib.Core.Path.{◌≡◌, refl, sym, ap, ap₂, ◌∙◌, subst}
 use mathlib.Core.Bool.{Bool, true, false}
 use mathlib.Core.List.Memᴰ.{append_cases as in-append}
@@ -145,7 +145,7 @@ module _ (m : List ℕ) (nodes : ℕ) (bytes : Bytes m) where
       inner zero e nz f sl sr lt h = absurd (nz refl)
       inner (suc k) e nz f sl sr lt h =
           let s = both_some L R h in
-          subst (λ (c : ℕ). StandsWithin m nodes i from to c) (sym s.2) (node_stands i from to k L R lt e f (sl f.left_in_lem s.0) (sr f.right_in s.1))
+          subst (λ (c : ℕ). StandsWithin m nodes i from to c) (sym s.2) (node_stands i from to k L R lt e f (sl f.left_in s.0) (sr f.right_in s.1))
 
       go : (z l k : Bool) → eqb (node_at m i).height 0 ≡ z → leaf_ok (node_at m i) from to ≡ l → inner_ok m nodes i from to ≡ k
           → Sound (node_at m i).left (node_at m i).low (cover_middle (node_at m i)) L → Sound (node_at m i).right (cover_middle (node_at m i)) (cover_end (node_at m i)) R
