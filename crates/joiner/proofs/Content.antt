@@ -46,5 +46,6 @@ point_clear p b e w = neither (names_key (key_of p) b.points) (scans_key (key_of
 -- R56: where a's points do not clash with b, b neither names nor scans a key that one of them puts or deletes
 pub clear_of : (ps : List Point) (b : Rec) → clashes ps b ≡ false → (p : Point) → Mem p ps → puts_or_deletes p ≡ true
     → (names_key (key_of p) b.points ≡ false) × (scans_key (key_of p) b.scans ≡ false)
+clear_of mathlib.Core.List.[] b e p x3 w = elim x3 [ ]
 clear_of (q ∷ ps) b e p (here i) w = point_clear p b (ap (clashes_at b) i ∙ (neither (clashes_at b q) (clashes ps b) e).0) w
 clear_of (q ∷ ps) b e p (there m) w = clear_of ps b (neither (clashes_at b q) (clashes ps b) e).1 p m w

@@ -15,7 +15,6 @@ use Rattle.words.specs.Word.{word}
 use Rattle.record.specs.declared.point.Point.{Point}
 use Rattle.record.specs.declared.point.Scan.{Scan}
 use Rattle.record.specs.declared.checker.End.{End}
-use Rattle.record.specs.declared.checker.End.TheVariants as End
 use Rattle.record.specs.declared.checker.Head.TheVariants.{Counts}
 use Rattle.record.specs.Record.{Rec, key_of, points_bytes, bytes_of, version_for, version_of, head_size}
 use Rattle.record.specs.Parse.{Parsed, bad, took, parse_points, is_took, list_of, place_of, head_of, parse}
@@ -25,13 +24,12 @@ use Rattle.record.proofs.Versions.{version_most}
 use Rattle.record.proofs.HeadLaws.{right_long}
 use Rattle.joiner.specs.declared.Found.TheVariants.{CannotJoin, Joined}
 use Rattle.joiner.specs.declared.points.Count.{Count}
-use Rattle.joiner.specs.declared.points.Count.TheVariants as Count
 use Rattle.joiner.specs.Joined.{puts_or_deletes, names_key, scans_key, clashes, joined_points, joined_scans, joined_of, can_join, joined_if}
 use Rattle.joiner.specs.ScanSteps.{last_run, BothTaken, scans_of_both, scans_count}
 use Rattle.joiner.specs.PointSteps.{clashes_named, clashes_scanned, points_of_both, PointsJoin, count_of}
 use Rattle.joiner.specs.Passes.{found_of}
 use Rattle.joiner.proofs.PointTurns.{count_took, count_refused}
-use Rattle.joiner.proofs.Parts.{record_with, Parts, right, few_points, few_scans, start_small, parts_of, parts_parse}
+use Rattle.joiner.proofs.Parts.{record_with, Parts, right, few_scans, start_small, parts_of, parts_parse}
 
 -- WHEN THERE IS NO JOINED RECORD
 

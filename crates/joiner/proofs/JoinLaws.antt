@@ -27,7 +27,6 @@ use Rattle.writer.specs.Stored.{head_bytes}
 use Rattle.writer.proofs.StoredBytes.{stored_whole}
 use Rattle.joiner.specs.declared.Joined.{Joined}
 use Rattle.joiner.specs.declared.Found.{Found}
-use Rattle.joiner.specs.declared.Found.TheVariants as Found
 use Rattle.joiner.specs.Joined.{joined_points, joined_scans, joined_of, can_join, joined_if}
 use Rattle.joiner.specs.Joiner.{join_outcome, join_refused, join_of}
 use Rattle.joiner.specs.ScanSteps.{last_run, BothTaken, scans_of_both}

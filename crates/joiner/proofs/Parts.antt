@@ -13,9 +13,7 @@ use Rattle.words.specs.Word.{word}
 use Rattle.record.specs.declared.point.Point.{Point}
 use Rattle.record.specs.declared.point.Scan.{Scan}
 use Rattle.record.specs.declared.checker.PointStep.{PointStep}
-use Rattle.record.specs.declared.checker.PointStep.TheVariants as PointStep
 use Rattle.record.specs.declared.checker.ScanStep.{ScanStep}
-use Rattle.record.specs.declared.checker.ScanStep.TheVariants as ScanStep
 use Rattle.record.specs.declared.checker.Head.TheVariants.{Counts}
 use Rattle.record.specs.Record.{Rec, key_of}
 use Rattle.record.specs.Parse.{Parsed, took, step_point, step_scan, after_point, after_scan, parse_points, parse_scans, is_took, list_of, place_of, head_of, parse}

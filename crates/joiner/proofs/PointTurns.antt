@@ -22,7 +22,6 @@ use Rattle.writer.proofs.StoredBytes.{point_bytes_lem}
 use Rattle.joiner.specs.declared.points.PointTake.{PointTake}
 use Rattle.joiner.specs.declared.points.PointTake.TheVariants.{Bad, Next}
 use Rattle.joiner.specs.declared.points.Count.{Count}
-use Rattle.joiner.specs.declared.points.Count.TheVariants as Count
 use Rattle.joiner.specs.Joined.{scans_key, joined_points}
 use Rattle.joiner.specs.PointSteps.{clashes_named, clashes_scanned, points_of_both, PointsJoin, PointNext, NextPoint, PointTaken, last_scans, starts_by, not_below, count_from}
 use Rattle.joiner.specs.ScanSteps.{last_run}

@@ -11,7 +11,6 @@ use lib.Seq.{sets}
 use Rattle.words.specs.Laws.{sets_append}
 use Rattle.record.specs.declared.point.Scan.{Scan}
 use Rattle.record.specs.declared.checker.End.{End}
-use Rattle.record.specs.declared.checker.End.TheVariants as End
 use Rattle.record.specs.Record.{scan_bytes, scans_bytes}
 use Rattle.record.specs.Parse.{parse_scans, is_took, list_of}
 use Rattle.joiner.specs.declared.scans.ScanTake.{ScanTake}

@@ -9,7 +9,6 @@ use native.Mathlib.Numerals.{sub-one}
 use lib.ListN.{length}
 use Rattle.record.specs.declared.point.Scan.{Scan}
 use Rattle.record.specs.declared.checker.ScanStep.{ScanStep}
-use Rattle.record.specs.declared.checker.ScanStep.TheVariants as ScanStep
 use Rattle.record.specs.Parse.{Parsed, bad, took, also, after_scan, step_scan, parse_scans, is_took, list_of}
 use Rattle.record.proofs.FillLaws.{no_took}
 use Rattle.writer.proofs.NamedLaws.{ScansInOrder}

@@ -12,7 +12,6 @@ use borrow.Author.Tests.{leb-true}
 use Rattle.words.specs.Choice.{if◌then◌else◌}
 use Rattle.record.specs.declared.point.Scan.{Scan}
 use Rattle.record.specs.declared.checker.End.{End}
-use Rattle.record.specs.declared.checker.End.TheVariants as End
 use Rattle.record.specs.Parse.{Parsed, bad, took, also, is_took, list_of}
 use Rattle.record.proofs.Cases.{by_case, and_split, took_also, list_also}
 use Rattle.writer.proofs.NamedLaws.{ScansInOrder}

@@ -10,7 +10,6 @@ use Rattle.record.specs.Parse.{Parsed, bad, took, is_took, list_of, place_of, pa
 use Rattle.joiner.specs.declared.points.PointTake.{PointTake}
 use Rattle.joiner.specs.declared.points.PointTake.TheVariants.{Bad, Next}
 use Rattle.joiner.specs.declared.points.Count.{Count}
-use Rattle.joiner.specs.declared.points.Count.TheVariants as Count
 use Rattle.joiner.specs.Joined.{puts_or_deletes, names_key, scans_key, joined_points}
 
 -- a's points ps put or delete a key that b's points qs name

@@ -4,7 +4,6 @@ use Rattle.std.specs.Prelude.{ℕ, zero, suc, ◌+◌, ◌*◌, ◌-◌, ◌≤�
 use Rattle.words.specs.Choice.{if◌then◌else◌}
 use Rattle.record.specs.declared.point.Scan.{Scan}
 use Rattle.record.specs.declared.checker.End.{End}
-use Rattle.record.specs.declared.checker.End.TheVariants as End
 use Rattle.record.specs.Parse.{Parsed, bad, took, also, is_took, list_of, parse_scans}
 use Rattle.joiner.specs.declared.scans.ScanTake.{ScanTake}
 use Rattle.joiner.specs.declared.scans.ScanTake.TheVariants.{Bad, Next}

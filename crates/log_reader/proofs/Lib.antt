@@ -1,3 +1,1 @@
-mod Held
-pub mod Lent
 pub mod Only

@@ -2,14 +2,14 @@
 -- its lows and its highs. A record has at most 64 scans, so room for 64 is as good as room for more.
 -- Assumes nothing.
 use mathlib.Core.Path.{◌≡◌, refl, sym, ap, ◌∙◌}
-use Prim.Native.Nat.{ℕ, zero, suc, ◌+◌, ◌-◌, ◌≤◌, ◌<◌}
+use Prim.Native.Nat.{ℕ, zero, suc, ◌-◌, ◌≤◌, ◌<◌}
 use native.Mathlib.Nat.{eq-zero-or-pos}
 use native.Mathlib.Omega.{arith}
 use mathlib.Core.Logic.{⊎_elim}
 use mathlib.Core.Bool.{Bool, true, false, ◌&&◌}
 use mathlib.Core.Option.{Option, none, some}
 use mathlib.Core.List.{List, [], ◌∷◌, ◌++◌, map}
-use lib.Dec.{leb, eqb}
+use lib.Dec.{leb}
 use lib.ListN.{length, take, drop, get_or, set, replicate, length-map, length-set, length-take, length-replicate}
 use lib.Seq.{take-append_seam, length-take-le}
 use borrow.Author.Tests.{lt-ltb, le-ltb, le-leb, leb-true}
@@ -20,7 +20,7 @@ use Rattle.record.specs.Parse.{parse}
 use Rattle.record.specs.declared.answer.Answer.{Answer}
 use Rattle.record.specs.Answer.{committed, malformed, output_short}
 use Rattle.record.specs.Reader.{ReadOutcome, lists, low_of, high_of, front, roomy, read_refused, filled, read_outcome, read_of}
-use Rattle.record.proofs.Cases.{by_case, and_split, no_some}
+use Rattle.record.proofs.Cases.{by_case, and_split}
 use Rattle.record.proofs.Rooms.{parsed_few}
 use Rattle.pairs.specs.declared.halves.Halves.{Halves}
 use Rattle.pairs.specs.declared.reader.Found.{Found}

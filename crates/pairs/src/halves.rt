@@ -20,7 +20,7 @@ pub fn least(count: usize) -> usize
 }
 
 // Before the first scan.
-fn none_yet_lem() -> Halves
+fn none_yet() -> Halves
     ensures { result ≡ none_yet }
 {
     Halves {
@@ -54,7 +54,7 @@ pub fn halves_of(scans: &[Scan], count: usize) -> Halves
     requires { (count ≤ 64) × (count ≤ length scans.now) }
     ensures { result ≡ halves_of count scans.now }
 {
-    let mut found = none_yet_lem();
+    let mut found = none_yet();
     let mut i: usize = 0;
     while i < count {
         found = with(found, i, scan_at(scans, i));
