@@ -13,11 +13,11 @@ use types.Run.{OneOf}
 use Rattle.record.specs.declared.answer.Answer.{Answer}
 use Rattle.record_log.specs.declared.found.Cut.{Cut}
 use Rattle.record_log.specs.declared.found.Cut.TheVariants.{End, Torn, Impossible, Record}
-use Rattle.record_log.specs.Log.{cut_at, part_of, CutIs}
+use Rattle.record_log.specs.Log.{cut_at, CutIs}
 use Rattle.record_log.specs.contracts.found.Cut as T
 use Rattle.record_log.proofs.Told.{cut_case}
 use Rattle.record_log.proofs.Stands.{record_tells}
-use Rattle.in_force.specs.InForce.{Source, source_of, if_cut, bytes_from, InForce}
+use Rattle.in_force.specs.InForce.{Source, source_of, if_cut, InForce}
 
 module _ (a : Answer) (o b : Bor (List ℕ)) where
   pub after_ahead : a.number ≡ 5 → InForce a o b o

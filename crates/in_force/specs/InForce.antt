@@ -1,6 +1,6 @@
 -- The record in force (R39).
 -- Assumes nothing: these are definitions.
-use Rattle.std.specs.Prelude.{ℕ, ◌+◌, ◌≡◌, Bool, true, false, List, [], eqb}
+use Rattle.std.specs.Prelude.{ℕ, ◌≡◌, List, [], eqb}
 use Rattle.std.specs.Borrow.{Bor}
 use Rattle.words.specs.Choice.{if◌then◌else◌}
 use Rattle.record.specs.declared.answer.Answer.{Answer}
