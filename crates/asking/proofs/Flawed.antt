@@ -26,10 +26,10 @@ module _ (bytes : List ℕ) (answer : Answer) (is : answer ≡ check_of (parse b
   pub none_found : answer.number ≡ 0 → is_wrong r.wrong ≡ false → FlawIs bytes r
   none_found z f =
       record {
-        well_formed_lem = λ e. f;
+        well_formed = λ e. f;
         malformed_is = λ n. absurd (n (sym is ∙ ap (λ (k : ℕ). record { number = k }) z));
       }
 
   -- something is
   pub some_found : (answer.number ≡ 0 → ⊥) → is_wrong r.wrong ≡ true → FlawIs bytes r
-  some_found z t = record { well_formed_lem = λ e. absurd (z (ap (λ (a : Answer). a.number) (is ∙ e))); malformed_is = λ n. t }
+  some_found z t = record { well_formed = λ e. absurd (z (ap (λ (a : Answer). a.number) (is ∙ e))); malformed_is = λ n. t }

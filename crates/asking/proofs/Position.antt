@@ -134,7 +134,7 @@ module _ {m brought m' filled : List ℕ} {records held : ℕ} (r : Rest m broug
 
 -- records passed one after the other
 passed_rest : {m window brought m' window' : List ℕ} {records held : ℕ} → Passed m window brought records held m' window' → Rest m brought records held m' window'
-passed_rest Passed.none_yet_lem =
+passed_rest Passed.none_yet =
     record { answers = []; place = 0; read = so_far; count = refl; rest = refl; inside = omega arith; fits = omega arith }
 passed_rest (Passed.one_more {window' = window'} {held = held} t p) =
     let r = passed_rest t in

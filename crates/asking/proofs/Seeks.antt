@@ -22,7 +22,7 @@ pub record SoFar (m window : List ℕ) (before records held : ℕ) (m' window' :
 -- none at first
 pub so_far_none : (m window : List ℕ) (before : ℕ) → SoFar m window before 0 0 m window
 so_far_none m window before =
-    record { brought = []; passed = Passed.none_yet_lem; few = omega arith; inside = omega arith; as_long = refl; as_large = refl }
+    record { brought = []; passed = Passed.none_yet; few = omega arith; inside = omega arith; as_long = refl; as_large = refl }
 
 -- A STEP TAKEN APART
 

@@ -40,5 +40,5 @@ StepWithin n (Steppeds.On at least) = at ≤ n
 
 -- R52: nothing is wrong with a well-formed record, and something with any other bytes (R9)
 pub record FlawIs (bytes : List ℕ) (r : Flaw) : Type 0 where
-  pub well_formed_lem : check_of (parse bytes) ≡ committed → is_wrong r.wrong ≡ false
+  pub well_formed : check_of (parse bytes) ≡ committed → is_wrong r.wrong ≡ false
   pub malformed_is : (check_of (parse bytes) ≢ committed) → is_wrong r.wrong ≡ true

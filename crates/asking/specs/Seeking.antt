@@ -48,7 +48,7 @@ stopped_by (Steps.Passed left) records = Tolds.Unread
 -- records passed one after the other, from nothing held on: all that the reads have brought, how many records, how many bytes are held, and the pool
 -- and the window then
 pub data Passed (m window : List ℕ) : List ℕ → ℕ → ℕ → List ℕ → List ℕ → Type 0 where
-  none_yet_lem : Passed m window [] 0 0 m window
+  none_yet : Passed m window [] 0 0 m window
   one_more : {brought m' window' m'' window'' : List ℕ} {records held left : ℕ}
       → Passed m window brought records held m' window' → (p : PassIs held m' window' m'' window'' left)
       → Passed m window (brought ++ brought_by held p.filled p.seen) (records + 1) left m'' window''

@@ -9,6 +9,7 @@ use lines::{HEAD, open};
 use meld::meld;
 use record::Answer;
 use record_log::Cut;
+use std::io::Read;
 use stream::fill;
 use words::word4;
 
@@ -21,7 +22,7 @@ pub enum Step {
 }
 
 // Melds the record at the window's front, and moves the window past it.
-fn pass(log: i32, pool: &mut [u8], window: &mut [u8], held: usize) -> Step
+fn pass<R: Read>(log: &mut R, pool: &mut [u8], window: &mut [u8], held: usize) -> Step
     requires { held ≤ length window.old }
     ensures { PassedBy held pool.old window.old pool.new window.new result }
 {
@@ -39,7 +40,7 @@ fn pass(log: i32, pool: &mut [u8], window: &mut [u8], held: usize) -> Step
 }
 
 // Explains the record at the window's front, which so many records stand before.
-fn tell_at(log: i32, pool: &[u8], window: &mut [u8], held: usize, records: u32) -> Told
+fn tell_at<R: Read>(log: &mut R, pool: &[u8], window: &mut [u8], held: usize, records: u32) -> Told
     requires { held ≤ length window.old }
     ensures { LooksAndTells held records pool.now window.old window.new result }
 {
@@ -66,7 +67,7 @@ fn stopped(step: Step, records: u32) -> Told
 }
 
 // Melds so many records of the log into the pool, and explains the next.
-fn seek(log: i32, pool: &mut [u8], window: &mut [u8], before: u32) -> Told
+fn seek<R: Read>(log: &mut R, pool: &mut [u8], window: &mut [u8], before: u32) -> Told
     ensures { Sought before pool.old window.old pool.new window.new result }
 {
     let mut held: usize = 0;
@@ -82,9 +83,9 @@ fn seek(log: i32, pool: &mut [u8], window: &mut [u8], before: u32) -> Told
     tell_at(log, pool, window, held, records)
 }
 
-// Reads limits and a log from a descriptor, makes the pool that the limits ask for out of the bytes lent, for an N up to the largest, and explains
+// Reads limits and a log, makes the pool that the limits ask for out of the bytes lent, for an N up to the largest, and explains
 // the record that so many records stand before. Its bytes stand at the front of the window.
-pub fn ask(log: i32, pool: &mut [u8], window: &mut [u8], most: u32, before: u32) -> Told
+pub fn ask<R: Read>(log: &mut R, pool: &mut [u8], window: &mut [u8], most: u32, before: u32) -> Told
     ensures { AsksLog most before pool.old window.old pool.new window.new result }
 {
     let mut head = [0u8; HEAD];

@@ -3,6 +3,7 @@ ghost use Rattle.std.specs.Prelude.{◌≤◌, length};
 ghost use Rattle.asking.specs.Window.{Shifted, Looked};
 
 use record_log::{Cut, cut};
+use std::io::Read;
 use stream::fill;
 
 // What a window filled up shows: how many bytes are held, whether a read failed, and what stands at the front.
@@ -14,7 +15,7 @@ pub struct Seen {
 }
 
 // Fills the window up behind the bytes held, and says what stands at its front.
-pub fn look(log: i32, window: &mut [u8], held: usize) -> Seen
+pub fn look<R: Read>(log: &mut R, window: &mut [u8], held: usize) -> Seen
     requires { held ≤ length window.old }
     ensures { Looked held window.old window.new result }
 {

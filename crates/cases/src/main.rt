@@ -5,11 +5,13 @@
 ghost use Rattle.lines.specs.Opening.{New};
 ghost use Rattle.lines.specs.Parts.{LogMelded};
 
-use libc::{STDIN_FILENO, STDOUT_FILENO};
-use lines::{HEAD, feed_part, finish, open, print_answer, print_ending};
+use lines::{HEAD, Output, feed_part, finish, open, print_answer, print_ending};
 use record::Answer;
 use record::limits::MAX_SIZE;
 use record_log::Cut;
+use std::io;
+use std::io::{Print, Read};
+use stream::fill;
 use words::word4;
 
 // The largest N, as in `verdicts`, and the bytes of a pool for it.
@@ -17,20 +19,21 @@ const MOST_KEYS: u32 = 1000;
 
 const POOL: usize = 64064;
 
+// The most bytes that a case has.
+const CASE: usize = 65536;
+
 // Prints the line that opens a case.
-fn print_case(number: u64) {
-    io::write_all(STDOUT_FILENO, b"case ");
-    io::print_decimal(STDOUT_FILENO, number);
-    io::write_all(STDOUT_FILENO, b"\n");
+fn print_case<P: Print>(out: &mut Output<P>, number: u64) {
+    out.say(format_args!("case {number}\n"));
 }
 
 // Feeds a whole log to a new pool as one part, prints a line for each record, with positions from 1 on, and answers how it ends.
-fn meld_log(pool: &mut [u8], log: &[u8]) -> Cut
+fn meld_log<P: Print>(out: &mut Output<P>, pool: &mut [u8], log: &[u8]) -> Cut
     requires { New pool.old }
     ensures { LogMelded log.now pool.old pool.new result }
 {
     let mut carry = [0u8; MAX_SIZE];
-    let going = feed_part(pool, &mut carry, 0, log, 1);
+    let going = feed_part(out, pool, &mut carry, 0, log, 1);
     let carried = going.carried;
     if going.stopped {
         return Cut::Impossible;
@@ -39,49 +42,53 @@ fn meld_log(pool: &mut [u8], log: &[u8]) -> Cut
 }
 
 // Prints the lines of one input.
-fn print_verdicts(input: &[u8]) {
+fn print_verdicts<P: Print>(out: &mut Output<P>, input: &[u8]) {
     let mut pool = [0u8; POOL];
     let asked = open(&mut pool, input, MOST_KEYS);
     let answer = asked.answer;
     let size = asked.size;
     if answer.number != Answer::COMMITTED.number {
-        print_answer(answer);
+        print_answer(out, answer);
         return;
     }
-    print_ending(meld_log(&mut pool[..size], &input[HEAD..]));
+    let found = meld_log(out, &mut pool[..size], &input[HEAD..]);
+    print_ending(out, found);
 }
 
 // Reads one case into the bytes lent, which are as many as it has, and prints its lines.
-fn run_case(number: u64, space: &mut [u8]) {
-    let got = io::read_full(STDIN_FILENO, space);
-    print_case(number);
-    print_verdicts(&space[..got]);
+fn run_case<R: Read, P: Print>(input: &mut R, out: &mut Output<P>, number: u64, space: &mut [u8]) {
+    let got = fill(input, space, 0).held;
+    print_case(out, number);
+    print_verdicts(out, &space[..got]);
 }
 
 // The next case's length; one past the largest where no case follows.
-fn next_length() -> usize {
+fn next_length<R: Read>(input: &mut R) -> usize {
     let mut bytes = [0u8; 4];
-    let got = io::read_full(STDIN_FILENO, &mut bytes);
+    let got = fill(input, &mut bytes, 0).held;
     if got < 4 {
-        return 65537;
+        return CASE + 1;
     }
     word4(&bytes[..got], 0) as usize
 }
 
 // Runs the next case, and answers whether there was one.
-fn run_next(number: u64) -> bool {
-    let length = next_length();
-    if length > 65536 {
+fn run_next<R: Read, P: Print>(input: &mut R, out: &mut Output<P>, number: u64) -> bool {
+    let length = next_length(input);
+    if length > CASE {
         return false;
     }
-    let mut space = io::large_buffer();
-    run_case(number, &mut space[..length]);
+    let mut space = [0u8; CASE];
+    run_case(input, out, number, &mut space[..length]);
     true
 }
 
-fn main() {
+fn main(rt: HostRuntime) -> io::Result<()> {
+    let mut input = rt.stdin();
+    let mut out = Output::new(rt.stdout());
     let mut number: u64 = 1;
-    while number < u64::MAX && run_next(number) {
+    while number < u64::MAX && run_next(&mut input, &mut out, number) {
         number += 1;
     }
+    out.end()
 }

@@ -1,8 +1,13 @@
 // The arguments: what is asked, and the position.
-ghost use Rattle.std.specs.Prelude.{◌≤◌};
+ghost use Rattle.std.specs.Prelude.{◌≤◌, ◌<◌, length};
 
 use asking::{Number, decimal};
-use libc::STDERR_FILENO;
+use lines::Output;
+use std::env::{Env, FillError};
+use std::io::Print;
+
+// The most bytes that an argument may have.
+pub const ARGUMENT: usize = 4096;
 
 // What is asked: which arguments name the log and give the position, or name the pool and the record, and whether the answer is wanted in numbers.
 #[derive(Clone, Copy)]
@@ -20,19 +25,45 @@ pub enum Question {
     },
 }
 
+// Puts an argument at the front of the bytes lent, and answers how many bytes it has: 0 for one that is not there, and for one that is longer.
+pub fn argument<R: Env>(rt: &R, i: usize, text: &mut [u8]) -> usize
+    ensures { result ≤ length text.new }
+{
+    match rt.arg(i, text) {
+        Ok(size) => size,
+        Err(_) => 0,
+    }
+}
+
+// Whether there is an argument, however long.
+fn is_there<R: Env>(rt: &R, i: usize) -> bool {
+    let mut text = [0u8; 1];
+    match rt.arg(i, &mut text) {
+        Err(FillError::NotPresent) => false,
+        _ => true,
+    }
+}
+
+// Whether there are so many arguments and no more, the program's own name among them.
+fn is_count<R: Env>(rt: &R, count: usize) -> bool
+    requires { 0 < count }
+{
+    is_there(rt, count - 1) && !is_there(rt, count)
+}
+
 // Whether an argument is this word.
-fn is_word(i: usize, word: &[u8]) -> bool {
-    let mut text = io::buffer();
-    let n = os::arg(i, &mut text);
-    check::same(&text[..n], word)
+fn is_word<R: Env>(rt: &R, i: usize, word: &[u8]) -> bool {
+    let mut text = [0u8; ARGUMENT];
+    let n = argument(rt, i, &mut text);
+    &text[..n] == word
 }
 
 // What the arguments from the first on ask.
-fn asked_from(first: usize, numbers: bool) -> Question
+fn asked_from<R: Env>(rt: &R, first: usize, numbers: bool) -> Question
     requires { first ≤ 2 }
 {
-    if is_word(first, b"--pool") {
-        if os::arg_count() != first + 3 {
+    if is_word(rt, first, b"--pool") {
+        if !is_count(rt, first + 3) {
             return Question::Wrong;
         }
         return Question::Pool {
@@ -41,7 +72,7 @@ fn asked_from(first: usize, numbers: bool) -> Question
             numbers,
         };
     }
-    if os::arg_count() != first + 2 {
+    if !is_count(rt, first + 2) {
         return Question::Wrong;
     }
     Question::Log {
@@ -52,31 +83,30 @@ fn asked_from(first: usize, numbers: bool) -> Question
 }
 
 // What the arguments ask.
-pub fn asked() -> Question {
-    if is_word(1, b"--numbers") {
-        return asked_from(2, true);
+pub fn asked<R: Env>(rt: &R) -> Question {
+    if is_word(rt, 1, b"--numbers") {
+        return asked_from(rt, 2, true);
     }
-    asked_from(1, false)
+    asked_from(rt, 1, false)
 }
 
 // Says how to ask.
-pub fn say_usage() {
-    io::write_all(
-        STDERR_FILENO,
-        b"explain: asked by [--numbers] LOG POSITION, or by [--numbers] --pool POOL RECORD\n",
+pub fn say_usage<E: Print>(complaints: &mut Output<E>) {
+    complaints.say(
+        "explain: asked by [--numbers] LOG POSITION, or by [--numbers] --pool POOL RECORD\n",
     );
 }
 
 // The position that an argument gives; 0 where it gives none, which is said.
-pub fn position_in(i: usize) -> u32 {
-    let mut text = io::buffer();
-    let n = os::arg(i, &mut text);
+pub fn position_in<R: Env, E: Print>(rt: &R, complaints: &mut Output<E>, i: usize) -> u32 {
+    let mut text = [0u8; ARGUMENT];
+    let n = argument(rt, i, &mut text);
     let number = decimal(&text[..n]);
     match number {
-        Number::Nothing => no_position(&text[..n]),
+        Number::Nothing => no_position(complaints, &text[..n]),
         Number::Is(position) => {
             if position == 0 {
-                return no_position(&text[..n]);
+                return no_position(complaints, &text[..n]);
             }
             position
         }
@@ -84,12 +114,11 @@ pub fn position_in(i: usize) -> u32 {
 }
 
 // Says that a text is no position.
-fn no_position(text: &[u8]) -> u32 {
-    io::write_all(STDERR_FILENO, b"explain: ");
-    io::write_all(STDERR_FILENO, text);
-    io::write_all(
-        STDERR_FILENO,
-        b": no position; the first record has position 1, and the last that can be is 4294967295\n",
+fn no_position<E: Print>(complaints: &mut Output<E>, text: &[u8]) -> u32 {
+    complaints.say("explain: ");
+    complaints.say_bytes(text);
+    complaints.say(
+        ": no position; the first record has position 1, and the last that can be is 4294967295\n",
     );
     0
 }

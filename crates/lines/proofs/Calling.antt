@@ -15,7 +15,7 @@ use Rattle.meld.specs.declared.melding.Melded.{Melded}
 use Rattle.demands.specs.Feeding.{verdict_in, verdicts_in}
 use Rattle.demands.proofs.FedOn.{verdicts_append}
 use Rattle.lines.specs.declared.parts.Going.{Going}
-use Rattle.lines.specs.Parts.{on_by, goes_on_by, CallsOver, none_yet_lem, one_more, PartCalls, all_taken, stops, PartFed}
+use Rattle.lines.specs.Parts.{on_by, goes_on_by, CallsOver, none_yet, one_more, PartCalls, all_taken, stops, PartFed}
 
 -- WHAT IS TOLD OF A CALL
 
@@ -45,7 +45,7 @@ pub record SoFar (part : List ℕ) (position : ℕ) (m carry : List ℕ) (carrie
 
 -- none at first
 pub begins : (part : List ℕ) (position : ℕ) (m carry : List ℕ) (carried : ℕ) → position < 2 ^ 64 → SoFar part position m carry carried 0 m carry carried position
-begins part position m carry carried h = record { calls = []; made = none_yet_lem; inside = omega arith; position_is = omega arith }
+begins part position m carry carried h = record { calls = []; made = none_yet; inside = omega arith; position_is = omega arith }
 
 -- counting on
 on_by_lem : (position n k here there : ℕ) → here ≡ on_by position n → there ≡ on_by here k → there ≡ on_by position (n + k)

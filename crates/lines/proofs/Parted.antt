@@ -26,7 +26,7 @@ use Rattle.demands.proofs.Calls.{stays_fit}
 use Rattle.demands.proofs.Parts.{parts_whole}
 use Rattle.demands.proofs.SomeFeeding.{over_ends}
 use Rattle.lines.specs.declared.parts.Going.{Going}
-use Rattle.lines.specs.Parts.{goes_on_by, CallsOver, none_yet_lem, one_more, PartCalls, all_taken, stops, PartFed, closed_by, Finishes, LogMelded}
+use Rattle.lines.specs.Parts.{goes_on_by, CallsOver, none_yet, one_more, PartCalls, all_taken, stops, PartFed, closed_by, Finishes, LogMelded}
 
 -- WHAT A CALL SAYS
 
@@ -73,14 +73,14 @@ module _ {m carry : List ℕ} {carried : ℕ} (fit : Fit m) (s : Such carry carr
 -- they leave a fit pool and a carry that may be
 calls_ready : {part m carry : List ℕ} {carried : ℕ} {rs : List Fed} {n : ℕ} {m' carry' : List ℕ} {carried' : ℕ}
     → CallsOver part m carry carried rs n m' carry' carried' → Fit m → Such carry carried → Fit m' × Such carry' carried'
-calls_ready none_yet_lem fit s = (fit, s)
+calls_ready none_yet fit s = (fit, s)
 calls_ready (one_more c f g) fit s = let (a, b) = calls_ready c fit s in (feed_stays_fit f a, such_left b f)
 
 -- and are the first of a run
 calls_then : {part m carry : List ℕ} {carried : ℕ} {rs : List Fed} {n : ℕ} {m' carry' : List ℕ} {carried' : ℕ}
     → CallsOver part m carry carried rs n m' carry' carried' → (parts : List (List ℕ)) (qs : List Fed) (m'' : List ℕ) (last : Cut)
     → PartsFed (drop n part ∷ parts) m' carry' carried' qs m'' last → PartsFed (part ∷ parts) m carry carried (rs ++ qs) m'' last
-calls_then none_yet_lem parts qs m'' last p = p
+calls_then none_yet parts qs m'' last p = p
 calls_then {part} {m} {carry} {carried} (one_more {rs = rs} {n = n} {m'' = m₁} {carry'' = carry₁} {r = r} c f g) parts qs m'' last p =
     subst (λ (l : List Fed). PartsFed (part ∷ parts) m carry carried l m'' last) (sym (append_assoc rs (r ∷ []) qs))
     (calls_then c parts (r ∷ qs) m'' last

@@ -30,7 +30,7 @@ goes_on_by End = false
 -- calls over a part, from a pool and a carry on: each is lent what those before it have not taken, and the log goes on behind each. What they
 -- gave back, how much of the part is taken, and the pool, the carry and how much is carried then
 pub data CallsOver (part m carry : List ℕ) (carried : ℕ) : List Fed → ℕ → List ℕ → List ℕ → ℕ → Type 0 where
-  none_yet_lem : CallsOver part m carry carried [] 0 m carry carried
+  none_yet : CallsOver part m carry carried [] 0 m carry carried
   one_more : {rs : List Fed} {n carried' : ℕ} {m' carry' m'' carry'' : List ℕ} {r : Fed}
       → CallsOver part m carry carried rs n m' carry' carried' → Feeds m' carry' carried' (drop n part) false r m'' carry'' → goes_on_by r.happened ≡ true
       → CallsOver part m carry carried (rs ++ (r ∷ [])) (n + r.taken) m'' carry'' r.carried

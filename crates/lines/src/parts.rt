@@ -3,10 +3,12 @@ ghost use Rattle.std.specs.Prelude.{◌≡◌, length};
 ghost use Rattle.demands.specs.Feeding.{verdict_in};
 ghost use Rattle.lines.specs.Parts.{on_by, goes_on_by, refused_by, closed_by, PartFed, Finishes};
 
+use crate::output::Output;
 use crate::printing::{Line, print_line};
 use pages::{Happened, feed};
 use record::Answer;
 use record_log::Cut;
+use std::io::Print;
 
 // How far a log is: the bytes carried, the position of the record that comes next, and whether a call has said that the log does not go on.
 #[derive(Clone, Copy)]
@@ -17,7 +19,7 @@ pub struct Going {
 }
 
 // Whether the log goes on behind what a call has said.
-fn goes_on_lem(happened: Happened) -> bool
+fn goes_on(happened: Happened) -> bool
     ensures { result ≡ goes_on_by happened }
 {
     match happened {
@@ -29,23 +31,27 @@ fn goes_on_lem(happened: Happened) -> bool
 }
 
 // Prints the line of the record decided, where one was, and answers the position of the next.
-fn tell(happened: Happened, looks: u32, position: u64) -> u64
+fn tell<P: Print>(out: &mut Output<P>, happened: Happened, looks: u32, position: u64) -> u64
     ensures { result ≡ on_by position (length (verdict_in happened looks)) }
 {
     let Happened::Decided(answer) = happened else {
         return position;
     };
-    print_line(Line {
-        position,
-        answer,
-        looks,
-    });
+    print_line(
+        out,
+        Line {
+            position,
+            answer,
+            looks,
+        },
+    );
     std::num::wrapping_add_u64(position, 1)
 }
 
 // Feeds a part, and what a call has not taken of it again, until nothing is left of it or a call says that the log does not go on. It prints a
 // line for each record; the first has the position given.
-pub fn feed_part(
+pub fn feed_part<P: Print>(
+    out: &mut Output<P>,
     pool: &mut [u8],
     carry: &mut [u8],
     carried: usize,
@@ -63,7 +69,7 @@ pub fn feed_part(
         let looks = fed.looks;
         carried = fed.carried;
         place += fed.taken;
-        position = tell(happened, looks, position);
+        position = tell(out, happened, looks, position);
         if !goes_on(happened) {
             return Going {
                 carried,

@@ -2,9 +2,10 @@
 ghost use Rattle.std.specs.Prelude.{◌≡◌};
 ghost use Rattle.lines.specs.Parts.{ending_answer};
 
-use libc::STDOUT_FILENO;
+use crate::output::Output;
 use record::Answer;
 use record_log::Cut;
+use std::io::Print;
 
 // What the line of a record says.
 #[derive(Clone, Copy)]
@@ -15,20 +16,17 @@ pub struct Line {
 }
 
 // Prints an answer's number, with a line feed.
-pub fn print_answer(answer: Answer) {
-    io::print_decimal(STDOUT_FILENO, answer.number as u64);
-    io::write_all(STDOUT_FILENO, b"\n");
+pub fn print_answer<P: Print>(out: &mut Output<P>, answer: Answer) {
+    let number = answer.number;
+    out.say(format_args!("{number}\n"));
 }
 
 // Prints a record's line: its position, its answer and its looks, with single spaces and a line feed.
-pub fn print_line(line: Line) {
-    let answer = line.answer;
-    io::print_decimal(STDOUT_FILENO, line.position);
-    io::write_all(STDOUT_FILENO, b" ");
-    io::print_decimal(STDOUT_FILENO, answer.number as u64);
-    io::write_all(STDOUT_FILENO, b" ");
-    io::print_decimal(STDOUT_FILENO, line.looks as u64);
-    io::write_all(STDOUT_FILENO, b"\n");
+pub fn print_line<P: Print>(out: &mut Output<P>, line: Line) {
+    let position = line.position;
+    let number = line.answer.number;
+    let looks = line.looks;
+    out.say(format_args!("{position} {number} {looks}\n"));
 }
 
 // The answer that stands for what was found behind the last record: 10 for a torn log, 11 for an impossible length, 0 where the rules have none.
@@ -44,11 +42,11 @@ pub fn ending_answer(found: Cut) -> Answer
 }
 
 // Prints the line after the last record, what stands there: 10, 11 or `end`.
-pub fn print_ending(found: Cut) {
+pub fn print_ending<P: Print>(out: &mut Output<P>, found: Cut) {
     let answer = ending_answer(found);
     if answer.number != Answer::COMMITTED.number {
-        print_answer(answer);
+        print_answer(out, answer);
         return;
     }
-    io::write_all(STDOUT_FILENO, b"end\n");
+    out.say("end\n");
 }

@@ -11,14 +11,15 @@ ghost use Rattle.record_log.specs.Log.{cut_at, place_after};
 use log_reader::LogReader;
 use record::Scan;
 use record_log::Cut;
+use std::io;
 
-// Prints the word that a line begins with.
-fn print_found(found: Cut) -> bool {
+// The word that a line begins with.
+fn word_for(found: Cut) -> &'static str {
     match found {
-        Cut::End => io::write_all(1, b"end"),
-        Cut::Torn => io::write_all(1, b"torn"),
-        Cut::Impossible => io::write_all(1, b"impossible"),
-        Cut::Record(_) => io::write_all(1, b"record"),
+        Cut::End => "end",
+        Cut::Torn => "torn",
+        Cut::Impossible => "impossible",
+        Cut::Record(_) => "record",
     }
 }
 
@@ -32,60 +33,50 @@ fn second_place(log: &[u8]) -> usize
 }
 
 // One step from a place, and its line; gives the place afterwards.
-fn line(log: &[u8], place: usize) -> usize {
+fn line<P: Print>(rt: &P, log: &[u8], place: usize) -> io::Result<usize> {
     let step = log_reader::step_at(log, place);
     let part = log_reader::part_at(log, place);
-    let found = step.found;
-    print_found(found);
-    io::write_all(1, b" ");
-    io::print_decimal(1, step.place as u64);
-    io::write_all(1, b" ");
-    io::print_decimal(1, part.len() as u64);
-    io::write_all(1, b"\n");
-    step.place
-}
-
-fn wide(byte: u8) -> u64 {
-    byte as u64
+    let found = word_for(step.found);
+    let next = step.place;
+    let size = part.len();
+    println!(rt; "{found} {next} {size}")?;
+    Ok(next)
 }
 
 // The bytes, each as a decimal number.
-fn bytes(list: &[u8]) {
-    let mut i: usize = 0;
-    while i < list.len() {
-        io::write_all(1, b" ");
-        io::print_decimal(1, wide(list[i]));
-        i += 1;
+fn bytes<P: Print>(rt: &P, list: &[u8]) -> io::Result<()> {
+    for byte in list {
+        print!(rt; " {byte}")?;
     }
+    Ok(())
 }
 
 // Writes the record with snapshot 1, put 30 = 300 and the scan from `low` to `high`, and its line.
-fn written(low: u32, high: u32) {
+fn written<P: Print>(rt: &P, low: u32, high: u32) -> io::Result<()> {
     let mut output = [0u8; 32];
     let kinds = [2u8; 1];
     let keys = [30u32; 1];
     let payloads = [300u64; 1];
     let scan = Scan { low, high };
     let written = pairs::write_one(1, &kinds, &keys, &payloads, scan, &mut output);
-    let answer = written.answer;
-    io::print_decimal(1, answer.number as u64);
-    io::write_all(1, b" ");
-    io::print_decimal(1, written.size as u64);
-    bytes(&output);
-    io::write_all(1, b"\n");
+    let answer = written.answer.number;
+    let size = written.size;
+    print!(rt; "{answer} {size}")?;
+    bytes(rt, &output)?;
+    println!(rt)
 }
 
-fn main() {
+fn main(rt: HostRuntime) -> io::Result<()> {
     let log =
         b"\x00\x0C\x01\x00\x00\x00\x01\x01\x00\x01\x00\x00\x00\x1E\x00\x1C\x01\x00\x00\x00\x01\x01\x01\x02\x00\x00\x00\x1E\x00\x00\x00\x00\x00\x00\x01\x2C\x00\x00\x00\x0B\x00\x00\x00\x13\x00";
-    io::print_decimal(1, second_place(log) as u64);
-    io::write_all(1, b"\n");
-    let second = line(log, 0);
-    let third = line(log, second);
-    let stays = line(log, third);
-    line(log, stays);
-    line(log, 45);
-    line(log, 46);
-    written(11, 19);
-    written(19, 11);
+    let second = second_place(log);
+    println!(rt; "{second}")?;
+    let second = line(&rt, log, 0)?;
+    let third = line(&rt, log, second)?;
+    let stays = line(&rt, log, third)?;
+    line(&rt, log, stays)?;
+    line(&rt, log, 45)?;
+    line(&rt, log, 46)?;
+    written(&rt, 11, 19)?;
+    written(&rt, 19, 11)
 }

@@ -5,6 +5,9 @@ ghost use Rattle.std.specs.Prelude.{◌≤◌, length};
 ghost use Rattle.lines.specs.Opening.{size_for};
 ghost use Rattle.replay.specs.Program.{largest_n, ProgramRuns};
 
+use lines::Output;
+use std::io;
+use std::io::{Print, Read};
 use stream::{Ending, meld_input, print_closing};
 
 // The largest N.
@@ -14,14 +17,18 @@ const MOST_KEYS: u32 = 65536;
 const POOL: usize = 4194368;
 
 // Melds the input into a pool made of the bytes lent, which are enough for the largest N, and answers how the run ends.
-fn meld_into(pool: &mut [u8]) -> Ending
+fn meld_into<R: Read, P: Print>(input: &mut R, out: &mut Output<P>, pool: &mut [u8]) -> Ending
     requires { size_for largest_n ≤ length pool.old }
     ensures { ProgramRuns pool.old pool.new result }
 {
-    meld_input(pool, MOST_KEYS)
+    meld_input(input, out, pool, MOST_KEYS)
 }
 
-fn main() {
+fn main(rt: HostRuntime) -> io::Result<()> {
     let mut pool = [0u8; POOL];
-    print_closing(meld_into(&mut pool));
+    let mut input = rt.stdin();
+    let mut out = Output::new(rt.stdout());
+    let ending = meld_into(&mut input, &mut out, &mut pool);
+    print_closing(&mut out, ending);
+    out.end()
 }

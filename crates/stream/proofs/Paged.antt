@@ -23,7 +23,7 @@ use Rattle.lines.proofs.Parted.{part_ready, part_then, part_breaks, finished, su
 use Rattle.stream.specs.declared.closing.Ending.{Ending}
 use Rattle.stream.specs.declared.closing.Ending.TheVariants.{Limits, Log, Unread}
 use Rattle.stream.specs.declared.turns.Progress.{Progress}
-use Rattle.stream.specs.Turns.{TurnIs, Turns, none_yet_lem, one_more, Closes, stops, unread, over, Streamed}
+use Rattle.stream.specs.Turns.{TurnIs, Turns, none_yet, one_more, Closes, stops, unread, over, Streamed}
 
 -- the log goes on where another page may follow
 more_goes_on : (held : ℕ) (stopped : Bool) → Rattle.stream.specs.Turns.more_by held stopped ≡ true → stopped ≡ false
@@ -45,7 +45,7 @@ module _ {m carry page : List ℕ} (fit : Fit m) (such : Such carry 0) where
   -- each turn leaves a fit pool and a carry that may be
   turns_ready : {pages : List (List ℕ)} {calls : List Fed} {p : Progress} {m' carry' page' : List ℕ} → Turns m carry page pages calls p m' carry' page'
       → Fit m' × Such carry' p.carried
-  turns_ready none_yet_lem = (fit, such)
+  turns_ready none_yet = (fit, such)
   turns_ready (one_more {m'' = m''} {carry'' = carry''} ts on t) =
       let (a, b) = turns_ready ts in
       let (c, d) = part_ready t.fed.made a b in
@@ -54,7 +54,7 @@ module _ {m carry page : List ℕ} (fit : Fit m) (such : Such carry 0) where
   -- the log goes on where another turn was made
   went_on : {pages : List (List ℕ)} {calls : List Fed} {p : Progress} {m' carry' page' : List ℕ} → Turns m carry page pages calls p m' carry' page' → p.more ≡ true
       → p.stopped ≡ false
-  went_on none_yet_lem on = refl
+  went_on none_yet on = refl
   went_on (one_more ts on' t) on =
       ap (λ (q : Progress). q.stopped) t.progress_is
       ∙ more_goes_on t.read.held t.going.stopped (sym (ap (λ (q : Progress). q.more) t.progress_is) ∙ on)
@@ -62,7 +62,7 @@ module _ {m carry page : List ℕ} (fit : Fit m) (such : Such carry 0) where
   -- turns that have not stopped are the first of a run
   turns_then : {pages : List (List ℕ)} {calls : List Fed} {p : Progress} {m' carry' page' : List ℕ} → Turns m carry page pages calls p m' carry' page' → p.stopped ≡ false
       → (parts : List (List ℕ)) (qs : List Fed) (m'' : List ℕ) (last : Cut) → PartsFed parts m' carry' p.carried qs m'' last → PartsFed (pages ++ parts) m carry 0 (calls ++ qs) m'' last
-  turns_then none_yet_lem e parts qs m'' last f = f
+  turns_then none_yet e parts qs m'' last f = f
   turns_then (one_more {pages = pages} {calls = calls} {p = p} {m' = m₀} {carry' = carry₀} {m'' = m₁} {carry'' = carry₁} {page'' = page₁} ts on t) e parts qs m'' last f =
       let bytes : List ℕ = take t.read.held page₁ in
       let went : t.going.stopped ≡ false = sym (ap (λ (q : Progress). q.stopped) t.progress_is) ∙ e in
@@ -75,7 +75,7 @@ module _ {m carry page : List ℕ} (fit : Fit m) (such : Such carry 0) where
   -- turns that have stopped are a run over a log with an impossible length
   turns_stopped : {pages : List (List ℕ)} {calls : List Fed} {p : Progress} {m' carry' page' : List ℕ} → Turns m carry page pages calls p m' carry' page' → p.stopped ≡ true
       → PartsFed pages m carry 0 calls m' Impossible
-  turns_stopped none_yet_lem e = absurd (true≢false (sym e))
+  turns_stopped none_yet e = absurd (true≢false (sym e))
   turns_stopped (one_more {pages = pages} {calls = calls} {p = p} {m' = m₀} {carry' = carry₀} {m'' = m₁} {carry'' = carry₁} {page'' = page₁} ts on t) e =
       let bytes : List ℕ = take t.read.held page₁ in
       let (a, b) = turns_ready ts in

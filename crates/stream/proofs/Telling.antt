@@ -12,7 +12,7 @@ use lib.ListN.{length, take, drop, length-drop}
 use lib.Seq.{length-take-le, take-take}
 use Rattle.io.specs.Counts.{clamp_len}
 use Rattle.stream.specs.declared.input.Filled.{Filled}
-use Rattle.stream.specs.Buffer.{failed_by, filled_by, Refilled, Reads, none_yet_lem, one_more, FilledUp, full, stopped}
+use Rattle.stream.specs.Buffer.{failed_by, filled_by, Refilled, Reads, none_yet, one_more, FilledUp, full, stopped}
 
 -- an answer below 0 is one that failed
 below_zero : (got : ℤ) → lt_z got (pos 0) ≡ failed_by got
@@ -59,7 +59,7 @@ pub record Held (held₀ : ℕ) (before : List ℕ) (held : ℕ) (after : List �
 
 -- none at first
 pub held_none : (held₀ : ℕ) (before : List ℕ) → held₀ ≤ length before → Held held₀ before held₀ before
-held_none held₀ before inside = record { reads = none_yet_lem; inside = inside; as_long = refl }
+held_none held₀ before inside = record { reads = none_yet; inside = inside; as_long = refl }
 
 module _ (held₀ : ℕ) (before : List ℕ) (held : ℕ) (after after' : List ℕ) (r : Filled) (h : Held held₀ before held after) (k : Refilled held after after' r) where
   -- one that brought something
@@ -98,7 +98,7 @@ front_on {held₀ = held₀} {held = held} {after = after} {after' = after'} f k
     }
 
 reads_front : {held₀ held : ℕ} {before after : List ℕ} → held₀ ≤ length before → Reads held₀ before held after → Front held₀ before held after
-reads_front h none_yet_lem = record { inside = h; as_long = refl; least = omega arith; kept = refl }
+reads_front h none_yet = record { inside = h; as_long = refl; least = omega arith; kept = refl }
 reads_front h (one_more t k some) = front_on (reads_front h t) k
 
 -- and of a buffer filled up

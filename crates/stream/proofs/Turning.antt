@@ -19,7 +19,7 @@ use Rattle.stream.specs.declared.closing.Ending.TheVariants.{Log, Unread}
 use Rattle.stream.specs.declared.input.Filled.{Filled}
 use Rattle.stream.specs.declared.turns.Progress.{Progress}
 use Rattle.stream.specs.Buffer.{Refilled}
-use Rattle.stream.specs.Turns.{more_by, progress_by, TurnIs, Turns, none_yet_lem, one_more, Closes, stops, unread, over, Streamed}
+use Rattle.stream.specs.Turns.{more_by, progress_by, TurnIs, Turns, none_yet, one_more, Closes, stops, unread, over, Streamed}
 
 -- where the log goes on, another page may follow one that is not empty
 pub goes_by_size : (held : ℕ) (stopped : Bool) → stopped ≡ false → not (eqb held 0) ≡ more_by held stopped
@@ -49,7 +49,7 @@ pub record Turned (m carry page : List ℕ) (carried position : ℕ) (more faile
 
 -- none at first
 pub turned_none : (m carry page : List ℕ) → Turned m carry page 0 1 true false false 18446744073709551615 m carry page
-turned_none m carry page = record { pages = []; calls = []; made = none_yet_lem; all = refl }
+turned_none m carry page = record { pages = []; calls = []; made = none_yet; all = refl }
 
 -- one more
 pub turned_on : (m carry page : List ℕ) (carried position : ℕ) (more failed stopped : Bool) (left : ℕ) (m' carry' page' : List ℕ)

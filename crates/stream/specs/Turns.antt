@@ -43,7 +43,7 @@ at_first = record { carried = 0; position = 1; more = true; failed = false; stop
 -- turns one after the other, each from where the one before it ended, and only where another page may follow: what the reads brought, the calls
 -- made, and how far the program is then
 pub data Turns (m carry page : List ℕ) : List (List ℕ) → List Fed → Progress → List ℕ → List ℕ → List ℕ → Type 0 where
-  none_yet_lem : Turns m carry page [] [] at_first m carry page
+  none_yet : Turns m carry page [] [] at_first m carry page
   one_more : {pages : List (List ℕ)} {calls : List Fed} {p p' : Progress} {m' carry' page' m'' carry'' page'' : List ℕ}
       → Turns m carry page pages calls p m' carry' page' → p.more ≡ true
       → (t : TurnIs p.carried p.position m' carry' page' m'' carry'' page'' p')

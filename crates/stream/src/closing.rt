@@ -1,7 +1,8 @@
 // How a run of the program ends, and the line that says so.
-use lines::{print_answer, print_ending};
+use lines::{Output, print_answer, print_ending};
 use record::Answer;
 use record_log::Cut;
+use std::io::Print;
 
 // What a run ends with: the answer to limits that cannot be, what stands behind the last record of the log, or a read that failed.
 #[derive(Clone, Copy)]
@@ -12,10 +13,10 @@ pub enum Ending {
 }
 
 // Prints the last line of a run: the answer, `end` or 10. After a read that failed there is none.
-pub fn print_closing(ending: Ending) {
+pub fn print_closing<P: Print>(out: &mut Output<P>, ending: Ending) {
     match ending {
-        Ending::Limits(answer) => print_answer(answer),
-        Ending::Log(found) => print_ending(found),
+        Ending::Limits(answer) => print_answer(out, answer),
+        Ending::Log(found) => print_ending(out, found),
         Ending::Unread => {}
     }
 }

@@ -1,12 +1,12 @@
-// The log on standard input, fed page by page: a page is what one read brings.
+// The log of an input, fed page by page: a page is what one read brings.
 ghost use Rattle.std.specs.Prelude.{◌≡◌};
 ghost use Rattle.stream.specs.Turns.{more_by, TurnIs, Streamed};
 
 use crate::closing::Ending;
 use crate::input::refill;
-use libc::STDIN_FILENO;
-use lines::{feed_part, finish};
+use lines::{Output, feed_part, finish};
 use record_log::Cut;
+use std::io::{Print, Read};
 
 // How far the program is: the bytes carried, the position of the record that comes next, whether another page may follow, whether the last
 // read failed, and whether the log does not go on.
@@ -30,7 +30,9 @@ fn more_after(held: usize, stopped: bool) -> bool
 }
 
 // Reads a page and feeds it.
-fn read_on(
+fn read_on<R: Read, P: Print>(
+    input: &mut R,
+    out: &mut Output<P>,
     pool: &mut [u8],
     carry: &mut [u8],
     page: &mut [u8],
@@ -39,9 +41,9 @@ fn read_on(
 ) -> Progress
     ensures { TurnIs carried position pool.old carry.old page.old pool.new carry.new page.new result }
 {
-    let read = refill(STDIN_FILENO, page, 0);
+    let read = refill(input, page, 0);
     let held = read.held;
-    let going = feed_part(pool, carry, carried, &page[..held], position);
+    let going = feed_part(out, pool, carry, carried, &page[..held], position);
     let stopped = going.stopped;
     Progress {
         carried: going.carried,
@@ -52,9 +54,15 @@ fn read_on(
     }
 }
 
-// Feeds the log on standard input, from where it stands, page by page, and answers how it ends, or that a read failed. A length that cannot be
+// Feeds the log of an input, from where it stands, page by page, and answers how it ends, or that a read failed. A length that cannot be
 // ends it at once. A proved loop has to end, so it counts its turns down from a number that no run uses up.
-pub fn meld_through(pool: &mut [u8], carry: &mut [u8], page: &mut [u8]) -> Ending
+pub fn meld_through<R: Read, P: Print>(
+    input: &mut R,
+    out: &mut Output<P>,
+    pool: &mut [u8],
+    carry: &mut [u8],
+    page: &mut [u8],
+) -> Ending
     ensures { Streamed pool.old carry.old page.old pool.new result }
 {
     let mut carried = 0;
@@ -65,7 +73,7 @@ pub fn meld_through(pool: &mut [u8], carry: &mut [u8], page: &mut [u8]) -> Endin
     let mut turns = u64::MAX;
     while turns > 0 && more {
         turns -= 1;
-        let progress = read_on(pool, carry, page, carried, position);
+        let progress = read_on(input, out, pool, carry, page, carried, position);
         carried = progress.carried;
         position = progress.position;
         more = progress.more;
