@@ -1,6 +1,6 @@
 #![tactic(auto)]
 
-// FOR C AND RUST: the public functions over plain numbers and slices, each under its own name in the archive. Whatever is lent, the number
+// FOR C AND RUST: the public functions over plain numbers and slices; `abi_c` exports each under its own name. Whatever is lent, the number
 // that is answered and every number and byte left behind are fixed. The last five need no pool; `record_abi` has them alone.
 mod numbers;
 
@@ -27,8 +27,7 @@ use record_log::cut;
 use writer::write;
 
 // Creates a pool with limits n and z in the bytes lent: 0, or 9 and no byte changes.
-#[unsafe(no_mangle)]
-pub extern "C" fn emuparasol_create(pool: &mut [u8], n: u32, z: u32) -> u8
+pub fn emuparasol_create(pool: &mut [u8], n: u32, z: u32) -> u8
     ensures { Created pool.old n z (answer result) pool.new }
 {
     let answer = create(pool, n, z);
@@ -37,8 +36,7 @@ pub extern "C" fn emuparasol_create(pool: &mut [u8], n: u32, z: u32) -> u8
 
 // What a pool says of itself: 7 for an unfit pool, else 0; its limits, its position, how many keys it keeps and how many of these are tombstones,
 // all five 0 with 7.
-#[unsafe(no_mangle)]
-pub extern "C" fn emuparasol_status(
+pub fn emuparasol_status(
     pool: &[u8],
     n: &mut u32,
     z: &mut u32,
@@ -60,13 +58,7 @@ pub extern "C" fn emuparasol_status(
 }
 
 // What is kept under a key: 7 for an unfit pool, else 0; payload and position of the last committed write, both 0 where there is none.
-#[unsafe(no_mangle)]
-pub extern "C" fn emuparasol_lookup(
-    pool: &[u8],
-    key: u32,
-    payload: &mut u64,
-    position: &mut u32,
-) -> u8
+pub fn emuparasol_lookup(pool: &[u8], key: u32, payload: &mut u64, position: &mut u32) -> u8
     ensures { LooksUpAs pool.now key (looked_up result payload.new position.new) }
 {
     let kept = of_lookup(lookup(pool, key));
@@ -76,8 +68,7 @@ pub extern "C" fn emuparasol_lookup(
 }
 
 // Melds a record into a pool: 7, 6, 4, 5, 2, 1, 3 or 0, and the looks.
-#[unsafe(no_mangle)]
-pub extern "C" fn emuparasol_meld(pool: &mut [u8], record: &[u8], looks: &mut u32) -> u8
+pub fn emuparasol_meld(pool: &mut [u8], record: &[u8], looks: &mut u32) -> u8
     ensures { Melds pool.old «record».now pool.new (melded result looks.new) }
 {
     let melded = meld(pool, record);
@@ -88,8 +79,7 @@ pub extern "C" fn emuparasol_meld(pool: &mut [u8], record: &[u8], looks: &mut u3
 
 // Takes the next part of a log and decides one record at most, once its last byte is in. What happened is told by a number of its own; the answer's
 // number is 0 where there is none. How many bytes are carried is read and set.
-#[unsafe(no_mangle)]
-pub extern "C" fn emuparasol_feed(
+pub fn emuparasol_feed(
     pool: &mut [u8],
     carry: &mut [u8],
     carried: &mut usize,
@@ -114,8 +104,7 @@ pub extern "C" fn emuparasol_feed(
 
 // Why melding a record would answer so: 7, 6, 4, 5, 2, 1, 3 or 0 with the looks, as a meld, and the six numbers of the reason, each 0 where it does
 // not tell it.
-#[unsafe(no_mangle)]
-pub extern "C" fn emuparasol_explain(
+pub fn emuparasol_explain(
     pool: &[u8],
     record: &[u8],
     looks: &mut u32,
@@ -145,8 +134,7 @@ pub extern "C" fn emuparasol_explain(
 }
 
 // Puts the record with the pool's position as snapshot at the front of the output: 7, 4, 5, 2, 1, 8 or 0.
-#[unsafe(no_mangle)]
-pub extern "C" fn emuparasol_refresh(pool: &[u8], original: &[u8], output: &mut [u8]) -> u8
+pub fn emuparasol_refresh(pool: &[u8], original: &[u8], output: &mut [u8]) -> u8
     ensures { RefreshIs pool.now original.now output.old (answer result) output.new }
 {
     let answer = refresh(pool, original, output);
@@ -154,8 +142,7 @@ pub extern "C" fn emuparasol_refresh(pool: &[u8], original: &[u8], output: &mut 
 }
 
 // Where the record in force lies after a refresh's answer: true in `refreshed`, false in `original`, from the offset on and so long.
-#[unsafe(no_mangle)]
-pub extern "C" fn emuparasol_in_force<'a>(
+pub fn emuparasol_in_force<'a>(
     answer: u8,
     original: &'a [u8],
     refreshed: &'a [u8],
@@ -175,8 +162,7 @@ pub extern "C" fn emuparasol_in_force<'a>(
 }
 
 // 0 where the bytes lent are exactly one well-formed record, else 4.
-#[unsafe(no_mangle)]
-pub extern "C" fn emuparasol_check(record: &[u8]) -> u8
+pub fn emuparasol_check(record: &[u8]) -> u8
     ensures { ChecksAs «record».now result }
 {
     let answer = check(record);
@@ -184,8 +170,7 @@ pub extern "C" fn emuparasol_check(record: &[u8]) -> u8
 }
 
 // Reads a record into the fronts of the lists: 4, 8 or 0, with the snapshot and both counts, all three 0 on a refusal.
-#[unsafe(no_mangle)]
-pub extern "C" fn emuparasol_read(
+pub fn emuparasol_read(
     record: &[u8],
     kinds: &mut [u8],
     keys: &mut [u32],
@@ -210,8 +195,7 @@ pub extern "C" fn emuparasol_read(
 }
 
 // Writes the record that the lists name to the front of the output: 4, 8 or 0, with its size, 0 on a refusal.
-#[unsafe(no_mangle)]
-pub extern "C" fn emuparasol_write(
+pub fn emuparasol_write(
     snapshot: u32,
     kinds: &[u8],
     keys: &[u32],
@@ -232,8 +216,7 @@ pub extern "C" fn emuparasol_write(
 }
 
 // Joins two records, meant for one position and the next, into one at the front of the output: 12, 8 or 0, with its size, 0 on a refusal.
-#[unsafe(no_mangle)]
-pub extern "C" fn emuparasol_join(a: &[u8], b: &[u8], output: &mut [u8], size: &mut usize) -> u8
+pub fn emuparasol_join(a: &[u8], b: &[u8], output: &mut [u8], size: &mut usize) -> u8
     ensures { JoinsAs a.now b.now output.old (joined result size.new) output.new }
 {
     let joined = join(a, b, output);
@@ -244,8 +227,7 @@ pub extern "C" fn emuparasol_join(a: &[u8], b: &[u8], output: &mut [u8], size: &
 
 // What stands at a place of a log: 10 for a torn log and 11 for an impossible length, both with the same place; else 0, with the place past the
 // record, or the same place at the end.
-#[unsafe(no_mangle)]
-pub extern "C" fn emuparasol_cut(log: &[u8], place: usize, next: &mut usize) -> u8
+pub fn emuparasol_cut(log: &[u8], place: usize, next: &mut usize) -> u8
     ensures { CutsAs log.now place (found result next.new) }
 {
     let found = of_cut(cut(log, place), place);

@@ -1,7 +1,7 @@
 #![tactic(auto)]
 
-// FOR C AND RUST, the record part alone: check, read, write, join and cut over plain numbers and slices, for host tools that need no pool. The
-// archive has these five functions and nothing of a pool; `abi` has the same five beside those of the pool, with the same promises.
+// FOR C AND RUST, the record part alone: check, read, write, join and cut over plain numbers and slices, for host tools that need no pool.
+// `record_abi_c` exports these five, and nothing of a pool; `abi` has the same five beside those of the pool, with the same promises.
 pub mod numbers;
 
 ghost use Rattle.record.specs.Reader.{lists, ReadsAs};
@@ -17,8 +17,7 @@ use record_log::cut;
 use writer::write;
 
 // 0 where the bytes lent are exactly one well-formed record, else 4.
-#[unsafe(no_mangle)]
-pub extern "C" fn emuparasol_check(record: &[u8]) -> u8
+pub fn emuparasol_check(record: &[u8]) -> u8
     ensures { ChecksAs «record».now result }
 {
     let answer = check(record);
@@ -26,8 +25,7 @@ pub extern "C" fn emuparasol_check(record: &[u8]) -> u8
 }
 
 // Reads a record into the fronts of the lists: 4, 8 or 0, with the snapshot and both counts, all three 0 on a refusal.
-#[unsafe(no_mangle)]
-pub extern "C" fn emuparasol_read(
+pub fn emuparasol_read(
     record: &[u8],
     kinds: &mut [u8],
     keys: &mut [u32],
@@ -52,8 +50,7 @@ pub extern "C" fn emuparasol_read(
 }
 
 // Writes the record that the lists name to the front of the output: 4, 8 or 0, with its size, 0 on a refusal.
-#[unsafe(no_mangle)]
-pub extern "C" fn emuparasol_write(
+pub fn emuparasol_write(
     snapshot: u32,
     kinds: &[u8],
     keys: &[u32],
@@ -74,8 +71,7 @@ pub extern "C" fn emuparasol_write(
 }
 
 // Joins two records, meant for one position and the next, into one at the front of the output: 12, 8 or 0, with its size, 0 on a refusal.
-#[unsafe(no_mangle)]
-pub extern "C" fn emuparasol_join(a: &[u8], b: &[u8], output: &mut [u8], size: &mut usize) -> u8
+pub fn emuparasol_join(a: &[u8], b: &[u8], output: &mut [u8], size: &mut usize) -> u8
     ensures { JoinsAs a.now b.now output.old (joined result size.new) output.new }
 {
     let joined = join(a, b, output);
@@ -86,8 +82,7 @@ pub extern "C" fn emuparasol_join(a: &[u8], b: &[u8], output: &mut [u8], size: &
 
 // What stands at a place of a log: 10 for a torn log and 11 for an impossible length, both with the same place; else 0, with the place past the
 // record, or the same place at the end.
-#[unsafe(no_mangle)]
-pub extern "C" fn emuparasol_cut(log: &[u8], place: usize, next: &mut usize) -> u8
+pub fn emuparasol_cut(log: &[u8], place: usize, next: &mut usize) -> u8
     ensures { CutsAs log.now place (found result next.new) }
 {
     let found = of_cut(cut(log, place), place);

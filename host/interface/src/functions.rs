@@ -22,15 +22,15 @@ pub struct Function {
     pub answer: String,
 }
 
-/// The functions that a Rattle source exports: marked `#[no_mangle]`, `pub extern "C"`.
+/// The functions that a Rattle source exports: marked `#[unsafe(no_mangle)]`, `pub extern "C"`.
 pub fn of_rattle(text: &str) -> Result<Vec<Function>, String> {
     let text = without_comments(text);
     let mut functions = Vec::new();
-    for part in text.split("#[no_mangle]").skip(1) {
+    for part in text.split("#[unsafe(no_mangle)]").skip(1) {
         let head = part
             .trim_start()
             .strip_prefix("pub extern \"C\" fn ")
-            .ok_or("#[no_mangle] before something that is not 'pub extern \"C\" fn'")?;
+            .ok_or("#[unsafe(no_mangle)] before something that is not 'pub extern \"C\" fn'")?;
         functions.push(rust_function(head, flat_rattle)?);
     }
     Ok(functions)

@@ -1,5 +1,5 @@
 //! The interface of the library is said three times: in the proved source
-//! (`crates/abi`; the record part alone again in `crates/record_abi`), in
+//! (`crates/abi_c`; the record part alone again in `crates/record_abi_c`), in
 //! `include/emuparasol.h` and in the Rust declarations
 //! (`emuparasol/src/declared.rs`); the answers also in `crates/record` and in the
 //! Rust enums, their names in the header's `emuparasol_answer_name`; what a call of

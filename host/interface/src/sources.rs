@@ -8,9 +8,10 @@ use crate::{answers, compare_answers, compare_functions, functions, sizes, versi
 /// The texts that have to agree.
 #[derive(Clone, Debug)]
 pub struct Sources {
-    /// Every file of `crates/abi/src`.
+    /// Every file of `crates/abi_c/src`, which exports the functions, and of
+    /// `crates/abi/src`, which has the numbers that they tell.
     pub rattle: String,
-    /// Every file of `crates/record_abi/src`, which has some of these functions.
+    /// Every file of `crates/record_abi_c/src`, which exports some of these functions.
     pub rattle_records: String,
     /// `include/emuparasol.h`.
     pub header: String,
@@ -37,8 +38,9 @@ impl Sources {
             fs::read_to_string(top.join(path)).map_err(|error| format!("{path}: {error}"))
         };
         Ok(Sources {
-            rattle: sources_below(&top.join("crates/abi/src"))?,
-            rattle_records: sources_below(&top.join("crates/record_abi/src"))?,
+            rattle: sources_below(&top.join("crates/abi_c/src"))?
+                + &sources_below(&top.join("crates/abi/src"))?,
+            rattle_records: sources_below(&top.join("crates/record_abi_c/src"))?,
             header: text("include/emuparasol.h")?,
             declared: text("host/emuparasol/src/declared.rs")?,
             rattle_answers: text("crates/record/src/answer.rt")?,

@@ -1,0 +1,76 @@
+#![tactic(auto)]
+
+// FOR C AND RUST, the record part alone: the functions of `record_abi` under their own names in an archive, for host tools that need no pool. `abi_c`
+// exports the same five beside those of the pool, with the same promises.
+ghost use Rattle.record.specs.Reader.{lists, ReadsAs};
+ghost use Rattle.writer.specs.Writer.{WritesAs};
+ghost use Rattle.joiner.specs.Joiner.{JoinsAs};
+ghost use Rattle.record_abi.specs.Numbers.{reading, written, joined, found};
+ghost use Rattle.record_abi.specs.Told.{ChecksAs, CutsAs};
+
+// 0 where the bytes lent are exactly one well-formed record, else 4.
+#[unsafe(no_mangle)]
+pub extern "C" fn emuparasol_check(record: &[u8]) -> u8
+    ensures { ChecksAs «record».now result }
+{
+    record_abi::emuparasol_check(record)
+}
+
+// Reads a record into the fronts of the lists: 4, 8 or 0, with the snapshot and both counts, all three 0 on a refusal.
+#[unsafe(no_mangle)]
+pub extern "C" fn emuparasol_read(
+    record: &[u8],
+    kinds: &mut [u8],
+    keys: &mut [u32],
+    payloads: &mut [u64],
+    lows: &mut [u32],
+    highs: &mut [u32],
+    snapshot: &mut u32,
+    points: &mut usize,
+    scans: &mut usize,
+) -> u8
+    ensures { ReadsAs «record».now
+        (lists kinds.old keys.old payloads.old lows.old highs.old)
+        (reading result snapshot.new points.new scans.new)
+        (lists kinds.new keys.new payloads.new lows.new highs.new) }
+{
+    record_abi::emuparasol_read(
+        record, kinds, keys, payloads, lows, highs, snapshot, points, scans,
+    )
+}
+
+// Writes the record that the lists name to the front of the output: 4, 8 or 0, with its size, 0 on a refusal.
+#[unsafe(no_mangle)]
+pub extern "C" fn emuparasol_write(
+    snapshot: u32,
+    kinds: &[u8],
+    keys: &[u32],
+    payloads: &[u64],
+    lows: &[u32],
+    highs: &[u32],
+    output: &mut [u8],
+    size: &mut usize,
+) -> u8
+    ensures { WritesAs snapshot
+        (lists kinds.now keys.now payloads.now lows.now highs.now)
+        output.old (written result size.new) output.new }
+{
+    record_abi::emuparasol_write(snapshot, kinds, keys, payloads, lows, highs, output, size)
+}
+
+// Joins two records, meant for one position and the next, into one at the front of the output: 12, 8 or 0, with its size, 0 on a refusal.
+#[unsafe(no_mangle)]
+pub extern "C" fn emuparasol_join(a: &[u8], b: &[u8], output: &mut [u8], size: &mut usize) -> u8
+    ensures { JoinsAs a.now b.now output.old (joined result size.new) output.new }
+{
+    record_abi::emuparasol_join(a, b, output, size)
+}
+
+// What stands at a place of a log: 10 for a torn log and 11 for an impossible length, both with the same place; else 0, with the place past the
+// record, or the same place at the end.
+#[unsafe(no_mangle)]
+pub extern "C" fn emuparasol_cut(log: &[u8], place: usize, next: &mut usize) -> u8
+    ensures { CutsAs log.now place (found result next.new) }
+{
+    record_abi::emuparasol_cut(log, place, next)
+}
