@@ -32,7 +32,7 @@ use Rattle.conflict_search.proofs.Reach.{sorted_valid, footprint_reach}
 use Rattle.judge.specs.declared.judged.Judged.{Judged}
 use Rattle.judge.specs.declared.judged.Named.{Named}
 use Rattle.judge.specs.Judged.{judged_of, named_in}
-use Rattle.judge.proofs.Named.{one_is_conflict, named_smallest}
+use Rattle.judge.proofs.NamedLaws.{one_is_conflict, named_smallest}
 use Rattle.room.specs.declared.room.Room.{Room}
 use Rattle.room.specs.declared.room.Room.TheVariants.{Enough, AfterDrop, TooLittle}
 use Rattle.room.specs.Room.{RoomSaid, said_by, room_in, Writable, RoomIs}
