@@ -58,7 +58,7 @@ row_beaten N Z log m bytes means = (to, from)
         record {
           position_left = left;
           r = w.r;
-          well_formed_lem = w.above.above.well_formed_lem;
+          well_formed = w.above.above.well_formed;
           not_ahead = low;
           not_too_old = near;
           beaten = (beaten N Z log w.r low near).0 (subst (λ (X : State). T (conflicts X w.r)) e w.conflict);
@@ -69,7 +69,7 @@ row_beaten N Z log m bytes means = (to, from)
       S = S;
       r = c.r;
       above = record {
-        above = record { above = record { means = means; left = c.position_left }; well_formed_lem = c.well_formed_lem };
+        above = record { above = record { means = means; left = c.position_left }; well_formed = c.well_formed };
         not_ahead = c.not_ahead;
         not_too_old = subst (λ (z : ℕ). S.p - c.r.snapshot ≤ z) (sym limit) c.not_too_old;
       };

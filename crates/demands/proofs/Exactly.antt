@@ -95,18 +95,18 @@ row_applies m bytes S means last = ⊎_elim
         (λ (k : count S r.points ≤ S.N).
         applies (some r) is committed (verdict_committed S r l z.not_ahead z.not_too_old c k) (record { S = S; r = r; above = z; no_conflict = c; room = k }))
         (λ (k : S.N < count S r.points).
-        applies (some r) is no_room (verdict_no_room S r l z.not_ahead z.not_too_old c k) (record { S = S; r = r; above = z; no_conflict = c; no_room_lem = k }))
+        applies (some r) is no_room (verdict_no_room S r l z.not_ahead z.not_too_old c k) (record { S = S; r = r; above = z; no_conflict = c; no_room = k }))
         (le_or_lt (count S r.points) S.N))
         (test (conflicts S r))
 
     formed : PositionLeft m S → (o : Option Rec) → parse bytes ≡ o → RowOf m bytes (verdict S (parse bytes))
     formed p none is = applies none is malformed (verdict_malformed S p.left) (record { S = S; above = p; malformed = is })
     formed p (some r) is =
-        let f : Formed m bytes S r = record { above = p; well_formed_lem = is } in
+        let f : Formed m bytes S r = record { above = p; well_formed = is } in
         ⊎_elim
         (λ (a : r.snapshot ≤ S.p). ⊎_elim
         (λ (n : S.p - r.snapshot ≤ S.Z). zoned r is (record { above = f; not_ahead = a; not_too_old = n }))
-        (λ (n : S.Z < S.p - r.snapshot). applies (some r) is too_old (verdict_too_old S r p.left a n) (record { S = S; r = r; above = f; not_ahead = a; too_old_lem = omega arith }))
+        (λ (n : S.Z < S.p - r.snapshot). applies (some r) is too_old (verdict_too_old S r p.left a n) (record { S = S; r = r; above = f; not_ahead = a; too_old = omega arith }))
         (le_or_lt (S.p - r.snapshot) S.Z))
         (λ (a : S.p < r.snapshot). applies (some r) is ahead (verdict_ahead S r p.left a) (record { S = S; r = r; above = f; ahead = a }))
         (le_or_lt r.snapshot S.p)
@@ -123,27 +123,27 @@ row_fixes m bytes malformed w = record { S = w.S; means = w.above.means; fixed =
 row_fixes m bytes ahead w = let f = w.above in record {
   S = w.S;
   means = f.above.means;
-  fixed = ap (verdict w.S) f.well_formed_lem ∙ verdict_ahead w.S w.r f.above.left w.ahead;
+  fixed = ap (verdict w.S) f.well_formed ∙ verdict_ahead w.S w.r f.above.left w.ahead;
 }
 row_fixes m bytes too_old w = let f = w.above in record {
   S = w.S;
   means = f.above.means;
-  fixed = ap (verdict w.S) f.well_formed_lem ∙ verdict_too_old w.S w.r f.above.left w.not_ahead (omega (arith, w.too_old_lem));
+  fixed = ap (verdict w.S) f.well_formed ∙ verdict_too_old w.S w.r f.above.left w.not_ahead (omega (arith, w.too_old));
 }
 row_fixes m bytes conflict w = let z = w.above in record {
   S = w.S;
   means = z.above.above.means;
-  fixed = ap (verdict w.S) z.above.well_formed_lem ∙ verdict_conflict w.S w.r z.above.above.left z.not_ahead z.not_too_old w.conflict;
+  fixed = ap (verdict w.S) z.above.well_formed ∙ verdict_conflict w.S w.r z.above.above.left z.not_ahead z.not_too_old w.conflict;
 }
 row_fixes m bytes no_room w = let z = w.above in record {
   S = w.S;
   means = z.above.above.means;
-  fixed = ap (verdict w.S) z.above.well_formed_lem ∙ verdict_no_room w.S w.r z.above.above.left z.not_ahead z.not_too_old w.no_conflict w.no_room_lem;
+  fixed = ap (verdict w.S) z.above.well_formed ∙ verdict_no_room w.S w.r z.above.above.left z.not_ahead z.not_too_old w.no_conflict w.no_room;
 }
 row_fixes m bytes committed w = let z = w.above in record {
   S = w.S;
   means = z.above.above.means;
-  fixed = ap (verdict w.S) z.above.well_formed_lem ∙ verdict_committed w.S w.r z.above.above.left z.not_ahead z.not_too_old w.no_conflict w.room;
+  fixed = ap (verdict w.S) z.above.well_formed ∙ verdict_committed w.S w.r z.above.above.left z.not_ahead z.not_too_old w.no_conflict w.room;
 }
 
 -- but for 6 and 0 the arrangement moves on
@@ -210,13 +210,13 @@ module _ (m bytes m' : List ℕ) (x : Melded) (lent : Bytes m) (b : Bytes bytes)
   -- the whole table, for any bytes as the pool and any bytes as the record
   pub meld_exactly : MeldExactly m bytes m' x.answer
   meld_exactly = let t = meld_touches m bytes lent b m' x h in record {
-    unfit_pool_lem = unfit_tells;
-    positions_used_up_lem = row_tells positions_used_up;
+    unfit_pool = unfit_tells;
+    positions_used_up = row_tells positions_used_up;
     malformed = row_tells malformed;
     ahead = row_tells ahead;
-    too_old_lem = row_tells too_old;
+    too_old = row_tells too_old;
     conflict = row_tells conflict;
-    no_room_lem = row_tells no_room;
+    no_room = row_tells no_room;
     committed = row_tells committed;
     unchanged = t.refusal;
     position_on = position_moved;

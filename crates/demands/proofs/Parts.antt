@@ -19,7 +19,7 @@ use Rattle.pages.specs.declared.told.Fed.{Fed}
 use Rattle.pages.specs.Pages.{carry_size, Feeds}
 use Rattle.pages.proofs.Progress.{takes_within}
 use Rattle.demands.specs.Runs.{Whole}
-use Rattle.demands.specs.Feeding.{verdicts_in, ending_in, Feeding, no_call, one_more, OneMore, PartsFed, next_part, goes_on_lem, breaks_off, is_over_lem}
+use Rattle.demands.specs.Feeding.{verdicts_in, ending_in, Feeding, no_call, one_more, OneMore, PartsFed, next_part, part_goes_on, breaks_off, is_over}
 use Rattle.demands.proofs.Cards.{same_log_same_bytes}
 use Rattle.demands.proofs.Feeding.{fed_ending}
 
@@ -43,14 +43,14 @@ module _ {N Z : ℕ} {lent new first : List ℕ} (log : List ℕ) (made : Create
       → (done : List Fed) (taken : ℕ) → Feeding log new first done taken m carry carried → drop taken log ≡ joined parts
       → Whole N Z log (verdicts_in (done ++ rs)) last m'
   parts_on (next_part p) done taken run rest = parts_on p done taken run rest
-  parts_on (goes_on_lem {part = part} {parts = parts} {m'' = m''} {r = r} {rs = rs} {last = last} f e p) done taken run rest =
+  parts_on (part_goes_on {part = part} {parts = parts} {m'' = m''} {r = r} {rs = rs} {last = last} f e p) done taken run rest =
       let run' = one_more run (length part) false (λ x. absurd (false≢true x)) (lent_front log taken part (joined parts) rest f) in
       let rest' : drop (taken + r.taken) log ≡ drop r.taken part ++ joined parts =
       sym (drop-drop r.taken taken log) ∙ ap (drop r.taken) rest ∙ drop-append-le r.taken part (joined parts) (takes_within f) in
       subst (λ (l : List Fed). Whole N Z log (verdicts_in l) last m'') (append_assoc done (r ∷ []) rs) (parts_on p (done ++ (r ∷ [])) (taken + r.taken) run' rest')
   parts_on (breaks_off {part = part} {parts = parts} f e) done taken run rest =
       last_call run (record { n = length part; over = false; all_of_it = λ x. absurd (false≢true x); feeds = lent_front log taken part (joined parts) rest f }) e
-  parts_on (is_over_lem f e) done taken run rest =
+  parts_on (is_over f e) done taken run rest =
       let none_left : length log ≤ taken + 0 = omega (arith, length-drop taken log, ap (length {A = ℕ}) rest) in
       last_call run (record { n = 0; over = true; all_of_it = λ _. none_left; feeds = f }) e
 

@@ -11,7 +11,7 @@ use Rattle.words.specs.Laws.{bytes_drop, bytes_take}
 use Rattle.record_log.specs.declared.found.Cut.{Cut}
 use Rattle.record_log.specs.declared.found.Cut.TheVariants.{Record}
 use Rattle.record_log.specs.Log.{cut_at, part_of, start_of, CutIs, HandedOut}
-use Rattle.record_log.specs.Walk.{Walks, ends, tears, cannot_be_lem, hands}
+use Rattle.record_log.specs.Walk.{Walks, ends, tears, cannot_be, hands}
 use Rattle.record_log.proofs.Told.{cut_case}
 use Rattle.record_log.proofs.Stands.{record_tells, end_not_record, torn_not_record, impossible_not_record, same_next}
 use Rattle.pool.specs.Image.{Fit}
@@ -27,7 +27,7 @@ use Rattle.demands.proofs.Following.{AllBytes, no_bytes, more_bytes}
 pub parts_bytes : {log : List ℕ} {place : ℕ} {parts : List (List ℕ)} {last : Cut} → Bytes log → Walks log place parts last → AllBytes parts
 parts_bytes b (ends e) = no_bytes
 parts_bytes b (tears e) = no_bytes
-parts_bytes b (cannot_be_lem e) = no_bytes
+parts_bytes b (cannot_be e) = no_bytes
 parts_bytes {log = log} {place = place} b (hands {next = next} e w) = more_bytes (bytes_take (next - place) (drop place log) (bytes_drop place log b)) (parts_bytes b w)
 
 -- the first of several
@@ -54,7 +54,7 @@ pub reading_front : {log : List ℕ} {place place' : ℕ} {m m' : List ℕ} {xs 
 reading_front so_far w = record { few = omega arith; melding = none_left; rest = w }
 reading_front (ReadingOn.one_more l c h d t) (ends e) = end_not_record (sym e ∙ sym (case c))
 reading_front (ReadingOn.one_more l c h d t) (tears e) = torn_not_record (sym e ∙ sym (case c))
-reading_front (ReadingOn.one_more l c h d t) (cannot_be_lem e) = impossible_not_record (sym e ∙ sym (case c))
+reading_front (ReadingOn.one_more l c h d t) (cannot_be e) = impossible_not_record (sym e ∙ sym (case c))
 reading_front {log = log} {place = place} {m = m} (ReadingOn.one_more {next = next} {m' = m₁} {a = a} {lent = lent} {part = part} l c h d t) (hands {next = other} {parts = parts} {last = last} e w) =
     let same : other ≡ next = same_next (sym e ∙ sym (case c)) in
     let bytes : part.now ≡ part_of (Record other) log place = h.bytes ∙ ap (λ (s : List ℕ). part_of (cut_at s place) s place) l ∙ ap (λ (x : Cut). part_of x log place) e in
@@ -72,7 +72,7 @@ whole_read {log = log} {place = place} {xs = xs} {parts = parts} {c = c} f i o =
     go : {last : Cut} (rest : List (List ℕ)) → drop (length xs) parts ≡ rest → Walks log place rest last → (length xs ≡ length parts) × (c ≡ last)
     go rest d (ends e) = (left (ap (length {A = List ℕ}) d), cut_case log place c i ∙ e)
     go rest d (tears e) = (left (ap (length {A = List ℕ}) d), cut_case log place c i ∙ e)
-    go rest d (cannot_be_lem e) = (left (ap (length {A = List ℕ}) d), cut_case log place c i ∙ e)
+    go rest d (cannot_be e) = (left (ap (length {A = List ℕ}) d), cut_case log place c i ∙ e)
     go rest d (hands e w) = absurd (subst is_over (cut_case log place c i ∙ e) o)
 
 -- ONE RECORD MORE

@@ -95,10 +95,10 @@ module _ (N Z : ℕ) (log : List ℕ) (lent : Bytes log) (parts : List (List ℕ
   pub blames_the_writer : x.answer ≡ Names.conflict → Blamed N Z (map parse (take q parts)) (parse bytes) x.reason
   blames_the_writer e =
       let c = (row_beaten N Z past m bytes means).0 (row conflict e) in
-      let g = reason conflict e c.r c.well_formed_lem in
+      let g = reason conflict e c.r c.well_formed in
       record {
         r = c.r;
-        well_formed_lem = c.well_formed_lem;
+        well_formed = c.well_formed;
         k = g.e.key;
         w = g.e.position;
         touch = g.touch;
@@ -114,10 +114,10 @@ module _ (N Z : ℕ) (log : List ℕ) (lent : Bytes log) (parts : List (List ℕ
       let same : z.S ≡ S = one_state z.above.above.means means in
       record {
         r = z.r;
-        well_formed_lem = z.above.well_formed_lem;
+        well_formed = z.above.well_formed;
         not_ahead = subst (λ (T : State). z.r.snapshot ≤ T.p) same z.not_ahead;
-        too_old_lem = subst (λ (n : ℕ). n < S.p - z.r.snapshot) (after_Z (fresh N Z) past) (subst (λ (T : State). T.Z < T.p - z.r.snapshot) same z.too_old_lem);
-        is = reason_told_apart x.reason (TooOld (S.p - z.r.snapshot)) (reason too_old e z.r z.above.well_formed_lem);
+        too_old = subst (λ (n : ℕ). n < S.p - z.r.snapshot) (after_Z (fresh N Z) past) (subst (λ (T : State). T.Z < T.p - z.r.snapshot) same z.too_old);
+        is = reason_told_apart x.reason (TooOld (S.p - z.r.snapshot)) (reason too_old e z.r z.above.well_formed);
       }
 
   -- R50: 3 tells how many keys have to find room
@@ -127,9 +127,9 @@ module _ (N Z : ℕ) (log : List ℕ) (lent : Bytes log) (parts : List (List ℕ
       let same : z.S ≡ S = one_state z.above.above.above.means means in
       record {
         r = z.r;
-        well_formed_lem = z.above.above.well_formed_lem;
-        no_room_lem = subst (λ (n : ℕ). n < count S z.r.points) (after_N (fresh N Z) past) (subst (λ (T : State). T.N < count T z.r.points) same z.no_room_lem);
-        is = reason_told_apart x.reason (NoRoom (count S z.r.points)) (reason no_room e z.r z.above.above.well_formed_lem);
+        well_formed = z.above.above.well_formed;
+        no_room = subst (λ (n : ℕ). n < count S z.r.points) (after_N (fresh N Z) past) (subst (λ (T : State). T.N < count T z.r.points) same z.no_room);
+        is = reason_told_apart x.reason (NoRoom (count S z.r.points)) (reason no_room e z.r z.above.above.well_formed);
       }
 
 -- ON ANY BYTES

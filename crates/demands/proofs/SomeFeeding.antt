@@ -33,7 +33,7 @@ use Rattle.pages.proofs.CarryBytes.{in_bytes, record_bytes, carry_bytes}
 use Rattle.pages.proofs.Progress.{gets_on}
 use Rattle.pages.proofs.Refusals.{such_never_8, fit_never_7, feed_stays_fit}
 use Rattle.demands.specs.Calls.{none_more}
-use Rattle.demands.specs.Feeding.{ending_in, next_part, goes_on_lem, breaks_off, is_over_lem}
+use Rattle.demands.specs.Feeding.{ending_in, next_part, part_goes_on, breaks_off, is_over}
 use Rattle.demands.specs.SomeRun.{SomeMeld, SomeFeed, SomePartsFed}
 use Rattle.demands.proofs.Calls.{stays_fit}
 
@@ -80,7 +80,7 @@ module _ (feed : SomeFeed) where
   none_left m carry carried k =
       let (r, m', carry', f) = feed m carry carried [] true k.fit.image.bytes k.bytes (bytes_take 0 carry k.bytes) in
       let (last, e) = over_ends k.such f in
-      record { told = r ∷ []; after = m'; last = last; run = is_over_lem f e }
+      record { told = r ∷ []; after = m'; last = last; run = is_over f e }
 
   -- a part and those behind it: each call takes a byte of it, or ends the run
   this_part : (bound : ℕ) (part : List ℕ) (parts : List (List ℕ)) → length part ≤ bound → Bytes part → FedFrom parts → FedFrom (part ∷ parts)
@@ -104,7 +104,7 @@ module _ (feed : SomeFeed) where
           (⊎_elim (λ (x : r.happened ≡ Refused torn_log). no_some (sym e ∙ ap ending_in x))
           (λ (x : r.happened ≡ Refused impossible_length). no_some (sym e ∙ ap ending_in x))))) (gets_on f (omega arith)) in
           let x = more (omega (arith, length-drop r.taken (y ∷ part))) in
-          record { told = r ∷ x.told; after = x.after; last = x.last; run = goes_on_lem f e x.run }
+          record { told = r ∷ x.told; after = x.after; last = x.last; run = part_goes_on f e x.run }
 
   -- all parts, one after the other
   all_parts : (parts : List (List ℕ)) → Bytes (joined parts) → FedFrom parts

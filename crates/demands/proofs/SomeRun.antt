@@ -12,7 +12,7 @@ use Rattle.record.specs.Answer.{committed}
 use Rattle.record_log.specs.declared.found.Cut.{Cut}
 use Rattle.record_log.specs.declared.found.Cut.TheVariants.{Record}
 use Rattle.record_log.specs.Log.{part_of, CutIs}
-use Rattle.record_log.specs.Walk.{Walks, ends, tears, cannot_be_lem, hands}
+use Rattle.record_log.specs.Walk.{Walks, ends, tears, cannot_be, hands}
 use Rattle.record_log.proofs.Walk.{walked}
 use Rattle.pool.specs.Image.{Fit}
 use Rattle.create.specs.Fresh.{Created}
@@ -38,7 +38,7 @@ some_reading meld {log = log} {place = place} b (ends e) m f =
     record { answers = []; stop = place; after = m; reading = so_far; found = subst (CutIs log place) e (cut_is log place); over = tt }
 some_reading meld {log = log} {place = place} b (tears e) m f =
     record { answers = []; stop = place; after = m; reading = so_far; found = subst (CutIs log place) e (cut_is log place); over = tt }
-some_reading meld {log = log} {place = place} b (cannot_be_lem e) m f =
+some_reading meld {log = log} {place = place} b (cannot_be e) m f =
     record { answers = []; stop = place; after = m; reading = so_far; found = subst (CutIs log place) e (cut_is log place); over = tt }
 some_reading meld {log = log} {place = place} b (hands {next = next} e w) m f =
     let bytes : List ℕ = part_of (Record next) log place in

@@ -40,7 +40,7 @@ pub record Row4 (m bytes : List ℕ) : Type 0 where
 -- R23: none of 7, 6 and 4: the bytes are the record r
 pub record Formed (m bytes : List ℕ) (S : State) (r : Rec) : Type 0 where
   pub above : PositionLeft m S
-  pub well_formed_lem : parse bytes ≡ some r
+  pub well_formed : parse bytes ≡ some r
 
 -- R23, 5 ahead: s > p
 pub record Row5 (m bytes : List ℕ) : Type 0 where
@@ -55,7 +55,7 @@ pub record Row2 (m bytes : List ℕ) : Type 0 where
   pub r : Rec
   pub above : Formed m bytes S r
   pub not_ahead : r.snapshot ≤ S.p
-  pub too_old_lem : S.Z < S.p - r.snapshot
+  pub too_old : S.Z < S.p - r.snapshot
 
 -- R23: none of 7, 6, 4, 5 and 2
 pub record InZone (m bytes : List ℕ) (S : State) (r : Rec) : Type 0 where
@@ -76,7 +76,7 @@ pub record Row3 (m bytes : List ℕ) : Type 0 where
   pub r : Rec
   pub above : InZone m bytes S r
   pub no_conflict : T (not (conflicts S r))
-  pub no_room_lem : S.N < count S r.points
+  pub no_room : S.N < count S r.points
 
 -- R23, 0 committed: otherwise
 pub record Row0 (m bytes : List ℕ) : Type 0 where
@@ -95,13 +95,13 @@ UsesPosition a = (a ≡ Names.malformed) ⊎ ((a ≡ Names.ahead) ⊎ ((a ≡ Na
 -- R23, R29: a meld of bytes into a pool m has answered a and left the pool m'
 pub record MeldExactly (m bytes m' : List ℕ) (a : Answer) : Type 0 where
   -- "exactly when"
-  pub unfit_pool_lem : (a ≡ Names.unfit_pool) ↔ Row7 m
-  pub positions_used_up_lem : (a ≡ Names.positions_used_up) ↔ Row6 m
+  pub unfit_pool : (a ≡ Names.unfit_pool) ↔ Row7 m
+  pub positions_used_up : (a ≡ Names.positions_used_up) ↔ Row6 m
   pub malformed : (a ≡ Names.malformed) ↔ Row4 m bytes
   pub ahead : (a ≡ Names.ahead) ↔ Row5 m bytes
-  pub too_old_lem : (a ≡ Names.too_old) ↔ Row2 m bytes
+  pub too_old : (a ≡ Names.too_old) ↔ Row2 m bytes
   pub conflict : (a ≡ Names.conflict) ↔ Row1 m bytes
-  pub no_room_lem : (a ≡ Names.no_room) ↔ Row3 m bytes
+  pub no_room : (a ≡ Names.no_room) ↔ Row3 m bytes
   pub committed : (a ≡ Names.committed) ↔ Row0 m bytes
   -- "left behind": nothing changes on 7 and 6
   pub unchanged : (a ≡ Names.unfit_pool) ⊎ (a ≡ Names.positions_used_up) → m' ≡ m

@@ -75,13 +75,13 @@ pub record FedSoFar (N Z : ℕ) (log : List ℕ) (rs : List Fed) (taken : ℕ) (
 pub data PartsFed : List (List ℕ) → List ℕ → List ℕ → ℕ → List Fed → List ℕ → Cut → Type 0 where
   next_part : {parts : List (List ℕ)} {m carry m' : List ℕ} {carried : ℕ} {rs : List Fed} {last : Cut}
       → PartsFed parts m carry carried rs m' last → PartsFed ([] ∷ parts) m carry carried rs m' last
-  goes_on_lem : {part : List ℕ} {parts : List (List ℕ)} {m carry m' carry' m'' : List ℕ} {carried : ℕ} {r : Fed} {rs : List Fed} {last : Cut}
+  part_goes_on : {part : List ℕ} {parts : List (List ℕ)} {m carry m' carry' m'' : List ℕ} {carried : ℕ} {r : Fed} {rs : List Fed} {last : Cut}
       → Feeds m carry carried part false r m' carry' → ending_in r.happened ≡ none
       → PartsFed (drop r.taken part ∷ parts) m' carry' r.carried rs m'' last
       → PartsFed (part ∷ parts) m carry carried (r ∷ rs) m'' last
   breaks_off : {part : List ℕ} {parts : List (List ℕ)} {m carry m' carry' : List ℕ} {carried : ℕ} {r : Fed} {last : Cut}
       → Feeds m carry carried part false r m' carry' → ending_in r.happened ≡ some last
       → PartsFed (part ∷ parts) m carry carried (r ∷ []) m' last
-  is_over_lem : {m carry m' carry' : List ℕ} {carried : ℕ} {r : Fed} {last : Cut}
+  is_over : {m carry m' carry' : List ℕ} {carried : ℕ} {r : Fed} {last : Cut}
       → Feeds m carry carried [] true r m' carry' → ending_in r.happened ≡ some last
       → PartsFed [] m carry carried (r ∷ []) m' last

@@ -45,7 +45,7 @@ pub record LastWriter (N Z : ℕ) (log : Log) (k w : ℕ) : Type 0 where
 -- R50, R51: m is a record, and its reason names what has beaten it, and what of it touches that key
 pub record Blamed (N Z : ℕ) (log : Log) (m : Option Rec) (x : Reason) : Type 0 where
   pub r : Rec
-  pub well_formed_lem : m ≡ some r
+  pub well_formed : m ≡ some r
   pub k : ℕ
   pub w : ℕ
   pub touch : Touch
@@ -58,16 +58,16 @@ pub record Blamed (N Z : ℕ) (log : Log) (m : Option Rec) (x : Reason) : Type 0
 -- R50: m is a record, its snapshot lies p − s positions back, which is more than Z, and its reason says so many
 pub record Lagging (N Z : ℕ) (log : Log) (m : Option Rec) (x : Reason) : Type 0 where
   pub r : Rec
-  pub well_formed_lem : m ≡ some r
+  pub well_formed : m ≡ some r
   pub not_ahead : r.snapshot ≤ (after (fresh N Z) log).p
-  pub too_old_lem : Z < (after (fresh N Z) log).p - r.snapshot
+  pub too_old : Z < (after (fresh N Z) log).p - r.snapshot
   pub is : x ≡ TooOld ((after (fresh N Z) log).p - r.snapshot)
 
 -- R50: m is a record, the keys that R26 counts for it are more than N, and its reason says how many
 pub record Crowded (N Z : ℕ) (log : Log) (m : Option Rec) (x : Reason) : Type 0 where
   pub r : Rec
-  pub well_formed_lem : m ≡ some r
-  pub no_room_lem : N < count (after (fresh N Z) log) r.points
+  pub well_formed : m ≡ some r
+  pub no_room : N < count (after (fresh N Z) log) r.points
   pub is : x ≡ NoRoom (count (after (fresh N Z) log) r.points)
 
 -- R50: 1, 2 and 3 have a reason

@@ -21,7 +21,7 @@ use Rattle.pages.proofs.Carries.{such_left}
 use Rattle.pages.proofs.Refusals.{feed_stays_fit}
 use Rattle.demands.specs.Runs.{Whole}
 use Rattle.demands.specs.Calls.{none_more}
-use Rattle.demands.specs.Feeding.{verdicts_in, ending_in, PartsFed, next_part, breaks_off, is_over_lem}
+use Rattle.demands.specs.Feeding.{verdicts_in, ending_in, PartsFed, next_part, breaks_off, is_over}
 use Rattle.demands.proofs.Calls.{stays_fit}
 use Rattle.demands.proofs.Parts.{parts_whole}
 use Rattle.demands.proofs.SomeFeeding.{over_ends}
@@ -84,7 +84,7 @@ calls_then none_yet parts qs m'' last p = p
 calls_then {part} {m} {carry} {carried} (one_more {rs = rs} {n = n} {m'' = m₁} {carry'' = carry₁} {r = r} c f g) parts qs m'' last p =
     subst (λ (l : List Fed). PartsFed (part ∷ parts) m carry carried l m'' last) (sym (append_assoc rs (r ∷ []) qs))
     (calls_then c parts (r ∷ qs) m'' last
-    (PartsFed.goes_on_lem f (goes_none r.happened g) (subst (λ (l : List ℕ). PartsFed (l ∷ parts) m₁ carry₁ r.carried qs m'' last) (sym (drop-drop r.taken n part)) p)))
+    (PartsFed.part_goes_on f (goes_none r.happened g) (subst (λ (l : List ℕ). PartsFed (l ∷ parts) m₁ carry₁ r.carried qs m'' last) (sym (drop-drop r.taken n part)) p)))
 
 -- A PART FED
 
@@ -113,7 +113,7 @@ part_breaks (stops {m'' = m₁} {r = r} c f g) fit s parts =
 pub finished : {m carry : List ℕ} {carried : ℕ} {m' carry' : List ℕ} {found : Cut} → Such carry carried → (f : Finishes m carry carried m' carry' found)
     → PartsFed [] m carry carried (f.call ∷ []) m' found
 finished {m} {carry} {carried} {m'} s f =
-    subst (λ (c : Cut). PartsFed [] m carry carried (f.call ∷ []) m' c) (sym f.found_is) (is_over_lem f.feeds (let (last, e) = over_ends s f.feeds in ending_closed f.call.happened last e))
+    subst (λ (c : Cut). PartsFed [] m carry carried (f.call ∷ []) m' c) (sym f.found_is) (is_over f.feeds (let (last, e) = over_ends s f.feeds in ending_closed f.call.happened last e))
 
 -- FROM A NEW POOL
 

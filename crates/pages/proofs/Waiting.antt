@@ -26,15 +26,15 @@ module _ (carry : List ℕ) (carried : ℕ) (part : List ℕ) (over : Bool) wher
       (sym t) (record { said = refl; pool = refl; carry_is = e })
 
   -- the log is over
-  is_over_lem : not over ≡ false → (r : Fed) → ((m : List ℕ) → FeedsAs (if eqb (carried + length part) 0 then at_end else torn) m carry carried part r m carry) → Waits r carry
-  is_over_lem t r f m = subst (λ (x : Bool). FeedsAs (if x then goes_on else (if eqb (carried + length part) 0 then at_end else torn)) m carry carried part r m carry) (sym t) (f m)
+  is_over : not over ≡ false → (r : Fed) → ((m : List ℕ) → FeedsAs (if eqb (carried + length part) 0 then at_end else torn) m carry carried part r m carry) → Waits r carry
+  is_over t r f m = subst (λ (x : Bool). FeedsAs (if x then goes_on else (if eqb (carried + length part) 0 then at_end else torn)) m carry carried part r m carry) (sym t) (f m)
 
   pub waits_end : not over ≡ false → carried + length part ≡ 0 → Waits (undecided End 0 0) carry
-  waits_end t z = is_over_lem t (undecided End 0 0)
+  waits_end t z = is_over t (undecided End 0 0)
       (λ m. subst (λ (x : Bool). FeedsAs (if x then at_end else torn) m carry carried part (undecided End 0 0) m carry) (sym (eq-eqb (carried + length part) 0 z))
       (record { said = refl; pool = refl; carry_is = refl }))
 
   pub waits_torn : not over ≡ false → (carried + length part ≡ 0 → ⊥) → (r : Fed) → r ≡ refusing torn_log carried → Waits r carry
-  waits_torn t n r e = is_over_lem t r
+  waits_torn t n r e = is_over t r
       (λ m. subst (λ (x : Bool). FeedsAs (if x then at_end else torn) m carry carried part r m carry) (sym (ne_eqb (carried + length part) 0 n))
       (record { said = e; pool = refl; carry_is = refl }))

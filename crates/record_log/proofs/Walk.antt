@@ -11,7 +11,7 @@ use Rattle.words.specs.Laws.{word_same}
 use Rattle.record_log.specs.declared.found.Cut.{Cut}
 use Rattle.record_log.specs.declared.found.Cut.TheVariants.{End, Torn, Impossible, Record}
 use Rattle.record_log.specs.Log.{cut_at, length_at, part_of, RecordAt}
-use Rattle.record_log.specs.Walk.{Walks, HasWalk, ends, tears, cannot_be_lem, hands, joined}
+use Rattle.record_log.specs.Walk.{Walks, HasWalk, ends, tears, cannot_be, hands, joined}
 use Rattle.record_log.specs.PartSized.{PartSized, PartsSized, no_part, one_more}
 use Rattle.record_log.proofs.Stands.{record_tells, end_tells, end_found, end_not_record, torn_not_record, impossible_not_record, same_next}
 use Rattle.record_log.proofs.Same.{cut_here}
@@ -22,7 +22,7 @@ use Rattle.record_log.proofs.Same.{cut_here}
 walked_step : (log : List ℕ) (place : ℕ) → ((next : ℕ) → RecordAt log place next → HasWalk log next) → (c : Cut) → cut_at log place ≡ c → HasWalk log place
 walked_step log place rest End e = record { parts = []; last = End; walks = ends e }
 walked_step log place rest Torn e = record { parts = []; last = Torn; walks = tears e }
-walked_step log place rest Impossible e = record { parts = []; last = Impossible; walks = cannot_be_lem e }
+walked_step log place rest Impossible e = record { parts = []; last = Impossible; walks = cannot_be e }
 walked_step log place rest (Record next) e =
     let w : HasWalk log next = rest next (record_tells log place next e) in
     record { parts = part_of (Record next) log place ∷ w.parts; last = w.last; walks = hands e w.walks }
@@ -43,7 +43,7 @@ pub walk_stops : {log : List ℕ} {place : ℕ} {parts : List (List ℕ)} {last 
     → ((next : ℕ) → c ≡ Record next → ⊥) → (parts ≡ []) × (last ≡ c)
 walk_stops (ends d) c e no_record = (refl, sym d ∙ e)
 walk_stops (tears d) c e no_record = (refl, sym d ∙ e)
-walk_stops (cannot_be_lem d) c e no_record = (refl, sym d ∙ e)
+walk_stops (cannot_be d) c e no_record = (refl, sym d ∙ e)
 walk_stops (hands {next = next} d v) c e no_record = absurd (no_record next (sym e ∙ d))
 
 -- two walks from one place hand out the same parts and end alike
@@ -51,10 +51,10 @@ pub walks_once : {log : List ℕ} {place : ℕ} {parts : List (List ℕ)} {last 
     → (others : List (List ℕ)) (end : Cut) → Walks log place others end → (parts ≡ others) × (last ≡ end)
 walks_once (ends e) others end v = let (p, q) = walk_stops v End e (λ n. end_not_record) in (sym p, sym q)
 walks_once (tears e) others end v = let (p, q) = walk_stops v Torn e (λ n. torn_not_record) in (sym p, sym q)
-walks_once (cannot_be_lem e) others end v = let (p, q) = walk_stops v Impossible e (λ n. impossible_not_record) in (sym p, sym q)
+walks_once (cannot_be e) others end v = let (p, q) = walk_stops v Impossible e (λ n. impossible_not_record) in (sym p, sym q)
 walks_once (hands e w) _ _ (ends d) = end_not_record (sym d ∙ e)
 walks_once (hands e w) _ _ (tears d) = torn_not_record (sym d ∙ e)
-walks_once (hands e w) _ _ (cannot_be_lem d) = impossible_not_record (sym d ∙ e)
+walks_once (hands e w) _ _ (cannot_be d) = impossible_not_record (sym d ∙ e)
 walks_once {log = log} {place = place} (hands {next = next} {parts = parts} {last = last} e w) _ _ (hands {next = other} {parts = others} {last = end} d v) =
     let same : other ≡ next = same_next (sym d ∙ e) in
     let (p, q) = walks_once w others end (subst (λ (n : ℕ). Walks log n others end) same v) in
@@ -80,7 +80,7 @@ sized_at log place next r =
 pub walks_sized : {log : List ℕ} {place : ℕ} {parts : List (List ℕ)} {last : Cut} → Walks log place parts last → PartsSized parts
 walks_sized (ends e) = no_part
 walks_sized (tears e) = no_part
-walks_sized (cannot_be_lem e) = no_part
+walks_sized (cannot_be e) = no_part
 walks_sized {log = log} {place = place} (hands {next = next} e w) = one_more (sized_at log place next (record_tells log place next e)) (walks_sized w)
 
 -- R8: 9 to 13,835 bytes

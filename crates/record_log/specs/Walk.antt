@@ -9,7 +9,7 @@ use Rattle.record_log.specs.Log.{cut_at, part_of}
 pub data Walks (log : List ℕ) : ℕ → List (List ℕ) → Cut → Type 0 where
   ends : {place : ℕ} → cut_at log place ≡ End → Walks log place [] End
   tears : {place : ℕ} → cut_at log place ≡ Torn → Walks log place [] Torn
-  cannot_be_lem : {place : ℕ} → cut_at log place ≡ Impossible → Walks log place [] Impossible
+  cannot_be : {place : ℕ} → cut_at log place ≡ Impossible → Walks log place [] Impossible
   hands : {place next : ℕ} {parts : List (List ℕ)} {last : Cut} → cut_at log place ≡ Record next → Walks log next parts last
       → Walks log place (part_of (Record next) log place ∷ parts) last
 

@@ -55,7 +55,7 @@ module _ (N Z : ℕ) (log : Log) where
           record {
             position_left = p;
             r = r;
-            well_formed_lem = refl;
+            well_formed = refl;
             not_ahead = low;
             not_too_old = near;
             no_conflict = λ x. T_not (conflicts place r) c ((beaten r low near).1 x);
@@ -75,7 +75,7 @@ module _ (N Z : ℕ) (log : Log) where
 
   -- what passes commits
   passed : {m : Option Rec} → Passes N Z log m → verdict place m ≡ committed
-  passed {m} w = ap (verdict place) w.well_formed_lem
+  passed {m} w = ap (verdict place) w.well_formed
       ∙ verdict_near place w.r w.not_ahead (omega (arith, w.not_ahead, w.not_too_old, after_Z (fresh N Z) log)) w.position_left
       ∙ rw (
         is_false (conflicts place w.r) (not_T (conflicts place w.r) (λ t. w.no_conflict ((beaten w.r w.not_ahead w.not_too_old).0 t))),

@@ -25,7 +25,7 @@ Beaten N Z log r = (e : Entry) × Mem e (commits (fresh N Z) log) × (r.snapshot
 pub record Passes (N Z : ℕ) (log : Log) (m : Option Rec) : Type 0 where
   pub position_left : (after (fresh N Z) log).p < last_position
   pub r : Rec
-  pub well_formed_lem : m ≡ some r
+  pub well_formed : m ≡ some r
   pub not_ahead : r.snapshot ≤ (after (fresh N Z) log).p
   pub not_too_old : (after (fresh N Z) log).p - r.snapshot ≤ Z
   pub no_conflict : Beaten N Z log r → ⊥
