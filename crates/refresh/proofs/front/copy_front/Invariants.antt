@@ -1,0 +1,16 @@
+-- `front::copy_front` meets its contract. The invariant of its loop: the output is what it was with the first i bytes of the source at its
+-- front (laws: Copies.antt), and as long as it was.
+-- Assumes nothing.
+use Prim.Native.Nat.{◌-◌, ◌≤◌}
+use mathlib.Core.Path.{◌≡◌, refl, ◌∙◌}
+use native.Mathlib.Omega.{arith}
+use lib.ListN.{length, length-set}
+use lib.Seq.{paste, paste-zero}
+use Rattle.refresh.proofs.Copies.{copy_more, copy_all}
+use Rattle.refresh.proofs.front.copy_front.Given as goal
+
+abbrev pub invariant-loop-i : goal.invariant-loop-i
+invariant-loop-i l = (l.output ≡ paste l.initial.output 0 l.source l.i) × (l.i ≤ length l.source) × (length l.output ≡ length l.initial.output)
+
+abbrev pub decreases-loop-i : goal.decreases-loop-i
+decreases-loop-i l = length l.source - l.i
