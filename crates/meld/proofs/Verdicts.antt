@@ -85,6 +85,10 @@ module _ (m : List ℕ) (s : ℕ) (kinds ks xs ls hs : List ℕ) (pre : Meldable
     -- A REFUSAL
 
     stays_put : (A : Arrangement) (ps : List Point) (v : Verdict) → Stops v → left_in A ps v ≡ moved_on A
+    stays_put A ps Rattle.rules.specs.Verdict.malformed x3 = elim x3 [ ]
+    stays_put A ps Rattle.rules.specs.Verdict.positions_used_up x4 = elim x4 [ ]
+    stays_put A ps committed x' = elim x' [ ]
+    stays_put A ps no_room x'' = elim x'' [ ]
     stays_put A ps ahead at_ahead = refl
     stays_put A ps too_old at_too_old = refl
     stays_put A ps conflict at_conflict = refl
@@ -106,6 +110,10 @@ module _ (m : List ℕ) (s : ℕ) (kinds ks xs ls hs : List ℕ) (pre : Meldable
       open_way A i r n = ⊎_elim (λ (x : Decided (state_of A) r j). absurd (not_zero x.v x.stops (sym (ap (λ (a : Answer). a.number) x.answer_is) ∙ zero))) (λ x. x) (way A i r n)
         where
           not_zero : (v : Verdict) → Stops v → (verdict_answer v).number ≡ 0 → ⊥
+          not_zero Rattle.rules.specs.Verdict.malformed x4 e = elim x4 [ ]
+          not_zero Rattle.rules.specs.Verdict.positions_used_up x5 e = elim x5 [ ]
+          not_zero committed x'' e = elim x'' [ ]
+          not_zero no_room x3 e = elim x3 [ ]
           not_zero ahead at_ahead e = omega arith
           not_zero too_old at_too_old e = omega arith
           not_zero conflict at_conflict e = omega arith
