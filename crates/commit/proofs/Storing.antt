@@ -1,11 +1,11 @@
 -- Entries stored one after the other: the state that it leaves, and how much it grows.
 -- Assumes nothing.
-use Prim.Native.Nat.{ℕ, zero, suc, ◌+◌, ◌≤◌, ◌<◌}
+use Prim.Native.Nat.{suc, ◌≤◌}
 use mathlib.Core.Path.{◌≡◌, refl, sym, ap, ◌∙◌, subst}
 use mathlib.Core.Bool.{Bool, true, false}
 use mathlib.Core.List.Memᴰ.{head as here}
 use mathlib.Core.List.Memᴰ.{tail as there}
-use mathlib.Core.List.{List, [], ◌∷◌, map, Memᴰ as Mem}
+use mathlib.Core.List.{List, [], ◌∷◌, map}
 use native.Mathlib.Omega.{arith}
 use lib.ListN.{length}
 use lib.Dec.{ltb}
@@ -15,11 +15,10 @@ use Rattle.record.specs.Record.{kind_of, key_of, payload_of}
 use Rattle.words.specs.Choice.{if◌then◌else◌}
 use Rattle.rules.specs.State.{Entry, State}
 use Rattle.rules.specs.Verdict.{store, store_all}
-use Rattle.rules.specs.EntryFits.{EntryFits}
 use Rattle.pool.specs.Image.{Arrangement, Arranged, state_of}
 use Rattle.put.specs.Storing.{put_in}
 use Rattle.put.proofs.Arranging.{Storable, state_put, arranged_put}
-use Rattle.commit.specs.Applied.{point_from, points_in, store_in, AllStorable}
+use Rattle.commit.specs.Applied.{points_in, store_in, AllStorable}
 
 -- the lists of points are the points
 pub points_in_lem : (ps : List Point) → points_in (map kind_of ps) (map key_of ps) (map payload_of ps) ≡ ps

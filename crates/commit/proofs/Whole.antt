@@ -1,21 +1,19 @@
 -- The steps of a commit, one behind the other: each asks what the one before leaves.
 -- Assumes nothing.
-use Prim.Native.Nat.{ℕ, ◌+◌, ◌-◌, ◌≤◌, ◌<◌}
-use mathlib.Core.Path.{◌≡◌, refl, sym, ap, ◌∙◌, subst}
+use Prim.Native.Nat.{ℕ, ◌+◌, ◌-◌, ◌≤◌}
+use mathlib.Core.Path.{◌≡◌, sym, ap, ◌∙◌, subst}
 use mathlib.Core.List.{List}
 use native.Mathlib.Omega.{arith}
 use lib.ListN.{length}
 use Rattle.nodes.specs.declared.header.Header.{Header}
 use Rattle.nodes.specs.Nodes.{header_at}
-use Rattle.rules.specs.Lists.{keep}
 use Rattle.rules.specs.State.{Entry}
 use Rattle.rules.specs.Verdict.{store_all}
-use Rattle.pool.specs.Image.{Arrangement, Image, Fit, state_of}
-use Rattle.drop.specs.Old.{stays}
+use Rattle.pool.specs.Image.{Arrangement, Image, Fit}
 use Rattle.drop.specs.Drop.{drop_in}
 use Rattle.advance.specs.Moved.{moved_on}
 use Rattle.drop.proofs.Arranging.{drop_kept}
-use Rattle.commit.specs.Applied.{writes_in, store_in, Applicable, Applies}
+use Rattle.commit.specs.Applied.{writes_in, Applicable, Applies}
 use Rattle.commit.specs.Commit.{old_at, commit_in, commit_lean, Committable, all_kept, not_old}
 
 module _ (m kinds ks xs m₁ : List ℕ) (moved : (A : Arrangement) → Image m A → Image m₁ (moved_on A)) where

@@ -213,6 +213,10 @@ module _ (m : List ℕ) (s : ℕ) (kinds ks ls hs : List ℕ) (pre : Explainable
         as_ruled (state_of A) r ahead x.judged.answer x.judged.looks Nothing (z.is ∙ v) (z.answer_is ∙ ap verdict_answer v) z.looks_is refl
       where
         only_ahead : (v : Verdict) → Stops v → ((verdict_answer v).number ≡ 1 → ⊥) → ((verdict_answer v).number ≡ 2 → ⊥) → v ≡ ahead
+        only_ahead committed x4 a b = elim x4 [ ]
+        only_ahead malformed x6 a b = elim x6 [ ]
+        only_ahead no_room x5 a b = elim x5 [ ]
+        only_ahead positions_used_up x7 a b = elim x7 [ ]
         only_ahead ahead at_ahead a b = refl
         only_ahead too_old at_too_old a b = absurd (b refl)
         only_ahead conflict at_conflict a b = absurd (a refl)
@@ -224,6 +228,10 @@ module _ (m : List ℕ) (s : ℕ) (kinds ks ls hs : List ℕ) (pre : Explainable
       open_way A i r xs n = ⊎_elim (λ (z : Decided (state_of A) r x.judged). absurd (not_zero z.v z.stops (number_of (state_of A) r z ∙ zero))) (λ z. z) (way A i r xs n)
         where
           not_zero : (v : Verdict) → Stops v → (verdict_answer v).number ≡ 0 → ⊥
+          not_zero committed x3 e = elim x3 [ ]
+          not_zero malformed x5 e = elim x5 [ ]
+          not_zero no_room x4 e = elim x4 [ ]
+          not_zero positions_used_up x6 e = elim x6 [ ]
           not_zero ahead at_ahead e = omega arith
           not_zero too_old at_too_old e = omega arith
           not_zero conflict at_conflict e = omega arith

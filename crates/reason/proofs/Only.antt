@@ -37,6 +37,7 @@ number_mem (later n) = there (number_mem n)
 
 -- one point at most has a key
 one_point : (low : ℕ) (ps : List Point) → PointsRise low ps → {p q : Point} {i j : ℕ} → IsNumber p i ps → IsNumber q j ps → key_of p ≡ key_of q → i ≡ j
+one_point low mathlib.Core.List.[] r {p = p} {q = q} {i = i} {j = j} x4 _ e = elim x4 [ ]
 one_point low (p ∷ ps) r first first e = refl
 one_point low (p ∷ ps) r {q = q} first (later n) e = absurd (omega (arith, e, above (key_of p + 1) ps r.3 q (number_mem n)))
 one_point low (q ∷ ps) r {p = p} (later n) first e = absurd (omega (arith, e, above (key_of q + 1) ps r.3 p (number_mem n)))
@@ -45,6 +46,7 @@ one_point low (p ∷ ps) r (later m) (later n) e = ap suc (one_point (key_of p +
 -- one scan at most covers a key
 one_scan_lem : (low k : ℕ) (cs : List Scan) → Apart low cs → {c d : Scan} {i j : ℕ} → IsNumber c i cs → IsNumber d j cs
     → c.low ≤ k → k ≤ c.high → d.low ≤ k → k ≤ d.high → i ≡ j
+one_scan_lem low k mathlib.Core.List.[] a {c = c} {d = d} {i = i} {j = j} x7 _ l h l' h' = elim x7 [ ]
 one_scan_lem low k (c ∷ cs) a first first l h l' h' = refl
 one_scan_lem low k (c ∷ cs) a {d = d} first (later n) l h l' h' = absurd (omega (arith, h, l', beyond_low (c.high + 1) cs a.3 d (number_mem n)))
 one_scan_lem low k (d ∷ cs) a {c = c} (later n) first l h l' h' = absurd (omega (arith, l, h', beyond_low (d.high + 1) cs a.3 c (number_mem n)))

@@ -34,6 +34,7 @@ point_at (x ∷ ps) (suc p) l = let y = point_at ps p (omega arith) in (y.0, lat
 -- a key that the cursor has passed, and below the one where it stands, is no point's
 no_point : (low : ℕ) (ps : List Point) (p k : ℕ) → PointsRise low ps → ((i : ℕ) → i < p → get_or (map key_of ps) i 0 < k) → (p < length ps → k < get_or (map key_of ps) p 0)
     → (q : Point) → Mem q ps → key_of q ≡ k → ⊥
+no_point low [] p k r passed beyond q x5 h = elim x5 [ ]
 no_point low (x ∷ ps) zero k r passed beyond q (here e) h = omega (arith, beyond (omega arith), ap key_of e)
 no_point low (x ∷ ps) zero k r passed beyond q (there m) h = omega (arith, beyond (omega arith), above (key_of x + 1) ps r.3 q m)
 no_point low (x ∷ ps) (suc p) k r passed beyond q (here e) h = omega (arith, passed 0 (omega arith), ap key_of e)
@@ -45,6 +46,7 @@ no_point low (x ∷ ps) (suc p) k r passed beyond q (there m) h =
 -- where a scan covers a key, the first whose high is not below it does
 scan_at : (low : ℕ) (cs : List Scan) (p k : ℕ) → Apart low cs → ((i : ℕ) → i < p → get_or (map high_of cs) i 0 < k) → (p < length cs → k ≤ get_or (map high_of cs) p 0)
     → (c : Scan) → Mem c cs → c.low ≤ k → k ≤ c.high → (d : Scan) × IsNumber d (suc p) cs × (d.low ≤ k) × (k ≤ d.high)
+scan_at low [] p k r passed stands c x6 l h = elim x6 [ ]
 scan_at low (x ∷ cs) zero k r passed stands c (here e) l h = (x, first, omega (arith, ap (λ (z : Scan). z.low) e), stands (omega arith))
 scan_at low (x ∷ cs) zero k r passed stands c (there m) l h =
     let s : k ≤ x.high = stands (omega arith) in absurd (omega (arith, beyond_low (x.high + 1) cs r.3 c m))

@@ -13,11 +13,10 @@ use Rattle.record.specs.declared.reader.Reading.{Reading}
 use Rattle.record.specs.Answer.{committed, malformed}
 use Rattle.record.specs.Record.{Rec, Valid, key_of}
 use Rattle.record.specs.Parse.{parse}
-use Rattle.record.specs.Reader.{Lists, ReadOutcome, read_outcome, lists, front, RoomFor, filled, read_of, low_of, high_of}
+use Rattle.record.specs.Reader.{Lists, ReadOutcome, read_outcome, front, RoomFor, filled, read_of, low_of, high_of}
 use Rattle.record.proofs.RoundTrip.{bytes_of_parse}
 use Rattle.rules.specs.State.{State}
 use Rattle.rules.specs.Footprint.{reach}
-use Rattle.rules.specs.Verdict as Verdict
 use Rattle.rules.specs.Verdict.{Verdict, verdict_answer, refusal_or}
 use Rattle.rules.specs.Refresh.{refreshed_answer, with_snapshot, on_zero, refresh}
 use Rattle.pool.specs.Image.{Arrangement, Image, state_of}

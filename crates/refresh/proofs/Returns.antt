@@ -18,7 +18,6 @@ use Rattle.nodes.specs.declared.header.Header.{Header}
 use Rattle.nodes.specs.Nodes.{header_at}
 use Rattle.rules.specs.State.{State}
 use Rattle.rules.specs.Footprint.{reach}
-use Rattle.rules.specs.Verdict as Verdict
 use Rattle.rules.specs.Verdict.{Verdict, conflict, too_old, no_room, malformed, ahead, positions_used_up, refusal_or}
 use Rattle.rules.specs.Refresh.{Refreshed, done, refused, refreshed_answer, on_zero, with_snapshot, refresh}
 use Rattle.pool.specs.Image.{Arrangement, Image, Fit, state_of}

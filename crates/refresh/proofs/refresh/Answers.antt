@@ -1,7 +1,6 @@
 -- `refresh` meets its promise: by what `fit` decides (Fitness.antt).
 -- Assumes nothing.
 use Rattle.refresh.proofs.Fitness.{known_fit, returns_unfit, returns_fit}
-use borrow.Author.Rules.{rules}
 use Rattle.std.proofs.lemmas.Bool.{not_from_false, not_from_true}
 use Rattle.refresh.proofs.refresh.Goals as goal
 

@@ -2,7 +2,6 @@
 -- Assumes nothing.
 use native.Mathlib.Omega.{arith}
 use Rattle.refresh.proofs.Returns.{returns_refused, returns_short, snapshot_inside, returns_done}
-use borrow.Author.Rules.{rules}
 use Rattle.refresh.proofs.refresh_fit.Goals as goal
 
 pub returns-then-answer : goal.returns-then-answer

@@ -1,10 +1,7 @@
 -- `commit::apply` meets its promise. The invariant: storing the rest from the present arrangement gives the whole (Turns.antt).
 use mathlib.Core.Path.{refl}
-use Prim.Native.Nat.{◌-◌}
 use native.Mathlib.Omega.{arith}
-use lib.ListN.{length}
-use borrow.Author.Rules.{rules}
-use Rattle.commit.proofs.Turns.{Going, starts, passed_over, is_put, is_delete, has_room, moved_on_lem, loop_ends}
+use Rattle.commit.proofs.Turns.{starts, passed_over, is_put, is_delete, has_room, moved_on_lem, loop_ends}
 use Rattle.commit.proofs.apply.apply.Goals as goal
 use Rattle.commit.proofs.apply.apply.Goals.{in-Put, in-Put-2}
 

@@ -1,6 +1,5 @@
 -- `commit::commit_after_drop` meets its promise: each step asks what the one before leaves (Whole.antt).
 use Rattle.commit.proofs.Whole.{still_fit, lean_apply, lean_leave}
-use borrow.Author.Rules.{rules}
 use Rattle.commit.proofs.commit.commit_after_drop.Goals as goal
 
 pub drop_old-requires : goal.drop_old-requires

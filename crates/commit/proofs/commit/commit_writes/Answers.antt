@@ -1,6 +1,5 @@
 -- `commit::commit_writes` meets its promise: each step asks what the one before leaves (Whole.antt).
 use Rattle.commit.proofs.Whole.{writes_apply, writes_leave}
-use borrow.Author.Rules.{rules}
 use Rattle.commit.proofs.commit.commit_writes.Goals as goal
 
 pub apply-requires : goal.apply-requires

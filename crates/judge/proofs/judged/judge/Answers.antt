@@ -1,6 +1,5 @@
 -- `judge::judge` meets its promise: it is `judge_and_name` without the leaf.
 use Rattle.judge.proofs.Cases.{without_leaf}
-use borrow.Author.Rules.{rules}
 use Rattle.judge.proofs.judged.judge.Goals as goal
 
 pub returns : goal.returns

@@ -1,6 +1,5 @@
 -- `judge::judge_and_name` meets its promise: one law for each return (Cases.antt).
 use Rattle.judge.proofs.Cases.{is_ahead, is_too_old, is_conflict, is_free}
-use borrow.Author.Rules.{rules}
 use Rattle.judge.proofs.judged.judge_and_name.Goals as goal
 
 pub returns-then-h-snapshot : goal.returns-then-h-snapshot

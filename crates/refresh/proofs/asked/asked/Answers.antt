@@ -1,7 +1,6 @@
 -- `asked::asked` meets its contract: the lists follow the version byte.
 -- Assumes nothing.
 use mathlib.Core.Path.{sym, ◌∙◌}
-use borrow.Author.Rules.{rules}
 use Rattle.refresh.proofs.asked.asked.Goals as goal
 
 pub asked_small-requires : goal.asked_small-requires

@@ -1,7 +1,6 @@
 -- `asked::asked_large` meets its contract: the lists have room for every record.
 -- Assumes nothing.
 use Rattle.record.proofs.Rooms.{room_large}
-use borrow.Author.Rules.{rules}
 use Rattle.refresh.proofs.asked.asked_large.Goals as goal
 
 pub asked_with-requires : goal.asked_with-requires

@@ -1,7 +1,6 @@
 -- `asked::asked_small` meets its contract: the lists have room for such a record.
 -- Assumes nothing.
 use Rattle.record.proofs.Rooms.{room_small}
-use borrow.Author.Rules.{rules}
 use Rattle.refresh.proofs.asked.asked_small.Goals as goal
 
 pub asked_with-requires : goal.asked_with-requires

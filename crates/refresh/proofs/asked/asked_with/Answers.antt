@@ -5,7 +5,6 @@ use native.Mathlib.Omega.{arith}
 use lib.Seq.{length-take-le}
 use Rattle.record.specs.Reader.{Lists, lists}
 use Rattle.refresh.proofs.Asks.{Taken, none_taken, taken, asked_malformed, taken_sorted, asked_judged}
-use borrow.Author.Rules.{rules}
 use Rattle.refresh.proofs.asked.asked_with.Goals as goal
 
 -- what was read, where the answer was 0

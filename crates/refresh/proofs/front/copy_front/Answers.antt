@@ -1,11 +1,10 @@
 -- `front::copy_front` meets its contract. The invariant of its loop: the output is what it was with the first i bytes of the source at its
 -- front (laws: Copies.antt), and as long as it was.
 -- Assumes nothing.
-use Prim.Native.Nat.{◌-◌, ◌≤◌}
-use mathlib.Core.Path.{◌≡◌, refl, ◌∙◌}
+use mathlib.Core.Path.{refl, ◌∙◌}
 use native.Mathlib.Omega.{arith}
-use lib.ListN.{length, length-set}
-use lib.Seq.{paste, paste-zero}
+use lib.ListN.{length-set}
+use lib.Seq.{paste-zero}
 use Rattle.refresh.proofs.Copies.{copy_more, copy_all}
 use Rattle.refresh.proofs.front.copy_front.Goals as goal
 

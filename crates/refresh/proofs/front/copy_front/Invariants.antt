@@ -2,11 +2,9 @@
 -- front (laws: Copies.antt), and as long as it was.
 -- Assumes nothing.
 use Prim.Native.Nat.{◌-◌, ◌≤◌}
-use mathlib.Core.Path.{◌≡◌, refl, ◌∙◌}
-use native.Mathlib.Omega.{arith}
-use lib.ListN.{length, length-set}
-use lib.Seq.{paste, paste-zero}
-use Rattle.refresh.proofs.Copies.{copy_more, copy_all}
+use mathlib.Core.Path.{◌≡◌}
+use lib.ListN.{length}
+use lib.Seq.{paste}
 use Rattle.refresh.proofs.front.copy_front.Given as goal
 
 abbrev pub invariant-loop-i : goal.invariant-loop-i

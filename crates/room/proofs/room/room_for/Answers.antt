@@ -1,6 +1,5 @@
 -- `room::room_for` meets its promise: what was counted decides row 3 (Decides.antt), and the kinds are what the count has settled.
 use Rattle.room.proofs.Decides.{position_left, lists_same, lists_few, all_fits, more_fits, enough, after_drop, too_little}
-use borrow.Author.Rules.{rules}
 use native.Mathlib.Omega.{arith}
 use Rattle.room.proofs.room.room_for.Goals as goal
 

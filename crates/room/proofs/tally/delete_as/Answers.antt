@@ -1,7 +1,6 @@
 -- `room::delete_as` meets its promise: one law for each thing that can be found (Turns.antt).
 use native.Mathlib.Omega.{arith}
 use Rattle.room.proofs.Turns.{live_deletes, absent_reads, tombstone_reads}
-use borrow.Author.Rules.{rules}
 use Rattle.room.proofs.tally.delete_as.Goals as goal
 
 pub returns-in-Live : goal.returns-in-Live

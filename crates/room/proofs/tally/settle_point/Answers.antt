@@ -1,6 +1,5 @@
 -- `room::settle_point` meets its promise: a put, a delete, and anything else (Turns.antt).
 use Rattle.room.proofs.Turns.{put_settled, delete_settled, other_settled}
-use borrow.Author.Rules.{rules}
 use Rattle.room.proofs.tally.settle_point.Goals as goal
 
 pub returns-then-kind-eq2 : goal.returns-then-kind-eq2

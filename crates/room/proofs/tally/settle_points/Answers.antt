@@ -1,9 +1,7 @@
 -- `room::settle_points` meets its promise. The invariant: what is counted so far and what the points from i on add make the whole, and so it is with the
 -- kinds (Turns.antt).
-use Prim.Native.Nat.{◌-◌}
-use lib.ListN.{length}
 use borrow.Author.Rules.{rules}
-use Rattle.room.proofs.Turns.{Going, starts, goes_on_lem, fits_absent, fits_revived, tally_ends, settle_ends}
+use Rattle.room.proofs.Turns.{starts, goes_on_lem, fits_absent, fits_revived, tally_ends, settle_ends}
 use Rattle.room.proofs.tally.settle_points.Goals as goal
 
 pub loop-i-init : goal.loop-i-init

@@ -2,8 +2,7 @@
 -- kinds (Turns.antt).
 use Prim.Native.Nat.{◌-◌}
 use lib.ListN.{length}
-use borrow.Author.Rules.{rules}
-use Rattle.room.proofs.Turns.{Going, starts, goes_on_lem, fits_absent, fits_revived, tally_ends, settle_ends}
+use Rattle.room.proofs.Turns.{Going}
 use Rattle.room.proofs.tally.settle_points.Given as goal
 
 abbrev pub invariant-loop-i : goal.invariant-loop-i

@@ -1,6 +1,5 @@
 -- `room::tally_one` meets its promise: what one key adds, by what is kept under it (Turns.antt).
 use Rattle.room.proofs.Turns.{one_old, one_young}
-use borrow.Author.Rules.{rules}
 use Rattle.room.proofs.tally.tally_one.Goals as goal
 
 pub returns-then-position-limit : goal.returns-then-position-limit
