@@ -46,6 +46,7 @@ names_mem k (p ∷ ps) t = ⊎_elim (λ (e : T (eqb (key_of p) k)). (p, here ref
 
 -- and the reverse
 mem_names : (k : ℕ) (ps : List Point) {q : Point} → Mem q ps → key_of q ≡ k → T (names_key k ps)
+mem_names k [] {q = q} x'' h = elim x'' [ ]
 mem_names k (p ∷ ps) (here e) h = or_left (eqb (key_of p) k) (names_key k ps) (yes_eq (ap key_of (sym e) ∙ h))
 mem_names k (p ∷ ps) (there m) h = or_right (eqb (key_of p) k) (names_key k ps) (mem_names k ps m h)
 
@@ -60,6 +61,7 @@ scans_mem k (c ∷ cs) t = ⊎_elim
 
 -- and the reverse
 mem_scans : (k : ℕ) (cs : List Scan) {c : Scan} → Mem c cs → c.low ≤ k → k ≤ c.high → T (scans_key k cs)
+mem_scans k [] {c = c} x3 l h = elim x3 [ ]
 mem_scans k (d ∷ cs) {c} (here e) l h =
     or_left (leb d.low k && leb k d.high) (scans_key k cs)
     (subst (λ (x : Scan). T (leb x.low k && leb k x.high)) e (and_of (leb c.low k) (leb k c.high) (le→leb c.low k l) (le→leb k c.high h)))
@@ -85,11 +87,13 @@ entry_mem k (p ∷ ps) {q} = if_ind (λ (o : Option Point). o ≡ some q → Mem
 
 -- the keys of points that rise from a number on are not below it
 rise_mem : (low : ℕ) (ps : List Point) {q : Point} → PointsRise low ps → Mem q ps → low ≤ key_of q
+rise_mem low [] {q = q} r x'' = elim x'' [ ]
 rise_mem low (p ∷ ps) r (here e) = omega (arith, r.0, ap key_of e)
 rise_mem low (p ∷ ps) r (there m) = omega (arith, r.0, rise_mem (key_of p + 1) ps r.3 m)
 
 -- each of the points is the entry of its key
 mem_entry : (low : ℕ) (ps : List Point) {q : Point} → PointsRise low ps → Mem q ps → entry_at (key_of q) ps ≡ some q
+mem_entry low [] {q = q} r x'' = elim x'' [ ]
 mem_entry low (p ∷ ps) {q} r (here e) = rw (is_true (eqb (key_of p) (key_of q)) (yes_eq (ap key_of (sym e)))) (ap some (sym e))
 mem_entry low (p ∷ ps) {q} r (there m) = rw (no_eq {a = key_of p} {b = key_of q} (λ e. omega (arith, rise_mem (key_of p + 1) ps r.3 m))) (mem_entry (key_of p + 1) ps r.3 m)
 

@@ -51,7 +51,7 @@ dead none b t = refl
 dead (some x) b t = absurd t
 
 -- R27: a drop changes no payload
-under_keep : (k z v : ℕ) {lo hi : ℕ} {es : List Entry} → Rising hi lo es → payload_in (find k (keep (young z v) es)) ≡ payload_in (find k es)
+under_keep : (k z v : ℕ) {hi lo : ℕ} {es : List Entry} → Rising hi lo es → payload_in (find k (keep (young z v) es)) ≡ payload_in (find k es)
 unfolding young
 under_keep k z v (end h) = refl
 under_keep k z v (link {e = e} {es = es} h r) = ⊎_elim
@@ -65,7 +65,7 @@ under_keep k z v (link {e = e} {es = es} h r) = ⊎_elim
 -- THE WRITES
 
 -- writes of larger keys leave a key as it was
-larger_keys : (k : ℕ) (o : Option Entry) {lo hi : ℕ} {ws : List Entry} → k < lo → Rising hi lo ws → last_write k o ws ≡ o
+larger_keys : (k : ℕ) (o : Option Entry) {hi lo : ℕ} {ws : List Entry} → k < lo → Rising hi lo ws → last_write k o ws ≡ o
 larger_keys k o l (end h) = refl
 larger_keys k o l (link {e = e} h r) = rw (no_eq {a = e.key} {b = k} (λ q. omega arith)) (larger_keys k o (omega arith) r)
 
