@@ -17,7 +17,7 @@ use Rattle.record.specs.Record.{Rec, Valid}
 use Rattle.words.specs.Choice.{if◌then◌else◌}
 use Rattle.rules.specs.State.{State, Lawful, last_position}
 use Rattle.rules.specs.Footprint.{reach}
-use Rattle.rules.specs.Verdict.{Verdict, committed, conflict, too_old, no_room, ahead, verdict_answer, conflicts, whole, drops, count, refusal_or, no_room_or_committed, judge, verdict}
+use Rattle.rules.specs.Verdict.{Verdict, conflict, too_old, ahead, verdict_answer, conflicts, whole, drops, count, refusal_or, no_room_or_committed, judge, verdict}
 use Rattle.rules.specs.Tree.{tree_of, walk, looks_of}
 use Rattle.rules.proofs.Counted.{drop_count}
 use Rattle.judge.specs.declared.judged.Judged.{Judged}

@@ -1,17 +1,15 @@
 -- What `read` leaves in lists that have room for the record: a refusal of malformed bytes, or the record's own lists at their fronts.
 -- Assumes nothing.
-use Prim.Native.Nat.{ℕ, ◌+◌, ◌≤◌, ◌<◌}
-use mathlib.Core.Path.{◌≡◌, refl, sym, ap, ◌∙◌, subst}
-use mathlib.Core.Bool.{Bool, true, false, cond, ◌&&◌}
+use Prim.Native.Nat.{ℕ, ◌≤◌}
+use mathlib.Core.Path.{◌≡◌, refl, sym, ap, ◌∙◌}
+use mathlib.Core.Bool.{true}
 use mathlib.Core.Option.{Option, none, some}
-use mathlib.Core.List.{List, [], ◌∷◌, ◌++◌, map}
+use mathlib.Core.List.{List, map}
 use native.Mathlib.Omega.{arith}
 use lib.ListN.{length, take, drop, length-map}
-use lib.Seq.{take_at, length-take-le}
-use lib.Dec.{leb}
+use lib.Seq.{take_at}
 use borrow.Author.Tests.{leb-true}
 use Rattle.words.specs.Word.{Bytes}
-use Rattle.record.specs.declared.answer.Answer.{Answer}
 use Rattle.record.specs.declared.reader.Reading.{Reading}
 use Rattle.record.specs.Record.{Rec, Valid, kind_of, key_of, payload_of}
 use Rattle.record.specs.Parse.{parse}

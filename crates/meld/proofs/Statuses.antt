@@ -1,13 +1,12 @@
 -- What `status` counts are all tombstones; and one law for each of its returns.
 -- Assumes nothing.
 use Prim.Native.Nat.{ℕ, ◌≤◌, ◌<◌}
-use mathlib.Core.Path.{◌≡◌, refl, sym, ap, ◌∙◌}
+use mathlib.Core.Path.{◌≡◌, refl, ap, ◌∙◌}
 use mathlib.Core.Logic.{⊎_elim}
 use mathlib.Core.Bool.{Bool, true, false, not, ◌&&◌}
 use mathlib.Core.List.Memᴰ.{head as here}
 use mathlib.Core.List.Memᴰ.{tail as there}
 use mathlib.Core.List.{List, [], ◌∷◌, Memᴰ as Mem}
-use mathlib.Core.Option.{Option, none, some}
 use native.Mathlib.Omega.{arith}
 use lib.ListN.{length}
 use borrow.Author.Tests.{le-leb}
@@ -15,7 +14,7 @@ use Rattle.record.specs.Answer.{committed}
 use Rattle.nodes.specs.declared.header.Header.{Header}
 use Rattle.nodes.specs.Nodes.{header_at}
 use Rattle.rules.specs.Lists.{keep}
-use Rattle.rules.specs.State.{Entry, is_live}
+use Rattle.rules.specs.State.{Entry}
 use Rattle.rules.proofs.Tests.{le_or_lt}
 use Rattle.pool.specs.Image.{Arrangement, Image, Fit, state_of, header_of}
 use Rattle.fit.specs.Whole.{Decides}
@@ -24,7 +23,7 @@ use Rattle.drop.specs.Spot.{UpTo}
 use Rattle.drop.proofs.Olds.{old_few}
 use Rattle.meld.specs.declared.kept.Status.{Status}
 use Rattle.meld.specs.Statuses.{is_tombstone, status_of, no_status, StatusIs}
-use Rattle.meld.proofs.Lookups.{now_fit, not_fit}
+use Rattle.meld.proofs.Lookups.{not_fit}
 
 -- ALL OF THEM ARE COUNTED
 

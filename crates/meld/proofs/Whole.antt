@@ -1,6 +1,6 @@
 -- One law for each return of `meld_fit` and `meld`, and for what their calls ask.
 -- Assumes nothing.
-use Prim.Native.Nat.{ℕ, ◌+◌, ◌≤◌, ◌<◌}
+use Prim.Native.Nat.{ℕ, ◌<◌}
 use mathlib.Core.Path.{◌≡◌, refl, sym, ap, ◌∙◌, subst}
 use mathlib.Core.Bool.{Bool, true, false, not}
 use mathlib.Core.Option.{Option, none, some}
@@ -12,9 +12,9 @@ use Rattle.record.specs.Parse.{parse}
 use Rattle.record.specs.Answer.{positions_used_up, malformed, unfit_pool}
 use Rattle.nodes.specs.declared.header.Header.{Header}
 use Rattle.nodes.specs.Nodes.{header_at}
-use Rattle.rules.specs.State.{State, last_position}
-use Rattle.rules.specs.Verdict.{Verdict, verdict}
-use Rattle.rules.specs.Verdict.{positions_used_up as isUsedUp, malformed as isMalformed}
+use Rattle.rules.specs.State.{last_position}
+use Rattle.rules.specs.Verdict.{verdict}
+use Rattle.rules.specs.Verdict.{positions_used_up as isUsedUp}
 use Rattle.rules.specs.Tree.{looks_of}
 use Rattle.rules.proofs.Near.{verdict_last}
 use Rattle.pool.specs.Image.{Arrangement, Image, Fit, state_of}
@@ -22,7 +22,7 @@ use Rattle.advance.specs.Moved.{moved_on, PositionsLeft}
 use Rattle.fit.specs.Whole.{Decides}
 use Rattle.meld.specs.declared.melding.Melded.{Melded}
 use Rattle.meld.specs.After.{after_in}
-use Rattle.meld.specs.Melds.{MeldsAs, MeldsFit, Refuses, Melds}
+use Rattle.meld.specs.Melds.{MeldsAs, MeldsFit, Melds}
 use Rattle.meld.specs.Lists.{Names, Meldable, MeldsLists}
 use Rattle.meld.proofs.Lookups.{now_fit, not_fit}
 

@@ -2,7 +2,6 @@
 -- Assumes nothing: these are definitions.
 use Rattle.std.specs.Prelude.{ℕ, ◌≡◌, List}
 use Rattle.std.proofs.Math.Option.{Option}
-use Rattle.record.specs.declared.answer.Answer.{Answer}
 use Rattle.record.specs.Answer.{unfit_pool}
 use Rattle.record.specs.Record.{Rec}
 use Rattle.record.specs.Parse.{parse}

@@ -1,6 +1,6 @@
 -- One law for each return of the steps that keep, wait and decide.
 -- Assumes nothing.
-use Prim.Native.Nat.{ℕ, ◌+◌, ◌-◌, ◌≤◌, ◌<◌}
+use Prim.Native.Nat.{ℕ, ◌+◌, ◌-◌, ◌≤◌}
 use mathlib.Core.Path.{◌≡◌, refl, sym, ap, ◌∙◌, subst}
 use mathlib.Core.Bool.{Bool, true, false, not}
 use mathlib.Core.List.{List, ◌++◌}
@@ -20,7 +20,7 @@ use Rattle.meld.specs.Melds.{MeldsFit, Melds}
 use Rattle.meld.proofs.Lookups.{now_fit}
 use Rattle.meld.proofs.Whole.{refuses, melds}
 use Rattle.pages.specs.declared.told.Fed.{Fed}
-use Rattle.pages.specs.Pages.{bytes_in, record_in, refusing, is_unfit, fed_by, carry_by, RecordDecided}
+use Rattle.pages.specs.Pages.{bytes_in, record_in, refusing, is_unfit, RecordDecided}
 use Rattle.pages.specs.Steps.{decided}
 use Rattle.pages.proofs.Stored.{length_in}
 use Rattle.pages.proofs.Decided.{fit_answers}

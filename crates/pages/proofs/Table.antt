@@ -11,7 +11,6 @@ use borrow.Author.Tests.{ltb-true, ltb-false, not-true, not-false}
 use lib.Dec.{ltb, eqb}
 use lib.ListN.{length, take, drop, take-append-drop}
 use lib.Seq.{length-take-le, take-append-le, take-take}
-use Rattle.words.specs.Choice.{if◌then◌else◌}
 use Rattle.record.specs.Answer.{output_short, impossible_length}
 use Rattle.record.specs.Reader.{front}
 use Rattle.record.proofs.Cases.{by_case}

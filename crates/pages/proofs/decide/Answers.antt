@@ -3,7 +3,6 @@
 use Prim.Native.Nat.{◌-◌}
 use mathlib.Core.Path.{refl, sym}
 use native.Mathlib.Omega.{arith}
-use borrow.Author.Rules.{rules}
 use lib.Seq.{length-take-le}
 use Rattle.meld.proofs.Lookups.{now_fit}
 use Rattle.pages.proofs.Deciding.{decided_unfit, decided_in_part, decided_in_carry}

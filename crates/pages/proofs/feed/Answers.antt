@@ -1,7 +1,6 @@
 -- `feed` meets its promise: what its steps have found out gives the row of R47 (Table.antt).
 -- Assumes nothing.
 use native.Mathlib.Omega.{arith}
-use borrow.Author.Rules.{rules}
 use Rattle.pages.proofs.Table.{refuses_carry, carried_fits, short_room, short_waits, length_is_in, length_kept, begun_before, sized_room, sized_waits, is_complete, is_decided}
 use Rattle.std.proofs.lemmas.Bool.{not_from_false, not_from_true}
 use Rattle.pages.proofs.feed.Goals as goal

@@ -1,7 +1,6 @@
 -- `wait` meets its contract (Waiting.antt).
 -- Assumes nothing.
 use native.Mathlib.Omega.{arith}
-use borrow.Author.Rules.{rules}
 use Rattle.pages.proofs.Waiting.{waits_on, waits_end, waits_torn}
 use Rattle.std.proofs.lemmas.Bool.{not_from_false, not_from_true}
 use Rattle.pages.proofs.wait.Goals as goal

@@ -1,6 +1,5 @@
 -- `meld::meld_lists` meets its promise: one law for each return and each call (Verdicts.antt).
 use Rattle.meld.proofs.Verdicts.{is_fit, are_sorted, is_writable, refusal_melds, asks_lean, asks_writes, no_room_lem, lean_melds, whole_melds}
-use borrow.Author.Rules.{rules}
 use Rattle.meld.proofs.lists.meld_lists.Goals as goal
 
 pub judge-judged-requires : goal.judge-judged-requires

@@ -1,6 +1,5 @@
 -- `meld::lookup` meets its promise: the check decides whether there is a state, and then one descent tells (Lookups.antt).
 use Rattle.meld.proofs.Lookups.{now_fit, unfit_lookup, fit_lookup}
-use borrow.Author.Rules.{rules}
 use Rattle.std.proofs.lemmas.Bool.{not_from_false, not_from_true}
 use Rattle.meld.proofs.looking.lookup.Goals as goal
 

@@ -3,7 +3,6 @@ use mathlib.Core.Path.{sym, ap}
 use Rattle.find.specs.declared.Found.{Found}
 use Rattle.find.specs.Found.{seen_as}
 use Rattle.meld.specs.Lookups.{lookup_of}
-use borrow.Author.Rules.{rules}
 use Rattle.meld.proofs.looking.seen.Goals as goal
 
 pub returns-in-Live : goal.returns-in-Live

@@ -1,7 +1,6 @@
 -- `meld::meld` meets its promise: the check decides whether there is a state (Whole.antt).
 use Rattle.meld.proofs.Lookups.{now_fit}
 use Rattle.meld.proofs.Whole.{refuses, melds}
-use borrow.Author.Rules.{rules}
 use Rattle.std.proofs.lemmas.Bool.{not_from_false, not_from_true}
 use Rattle.meld.proofs.melding.meld.Goals as goal
 

@@ -1,7 +1,6 @@
 -- `melding::meld_fit` meets its promise: the lists follow the version byte.
 -- Assumes nothing.
 use mathlib.Core.Path.{sym, ◌∙◌}
-use borrow.Author.Rules.{rules}
 use Rattle.meld.proofs.melding.meld_fit.Goals as goal
 
 pub meld_small-requires : goal.meld_small-requires

@@ -1,7 +1,6 @@
 -- `melding::meld_large` meets its promise: the lists have room for every record.
 -- Assumes nothing.
 use Rattle.record.proofs.Rooms.{room_large}
-use borrow.Author.Rules.{rules}
 use Rattle.meld.proofs.melding.meld_large.Goals as goal
 
 pub meld_with-requires : goal.meld_with-requires

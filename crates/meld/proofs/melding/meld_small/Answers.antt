@@ -1,7 +1,6 @@
 -- `melding::meld_small` meets its promise: the lists have room for such a record.
 -- Assumes nothing.
 use Rattle.record.proofs.Rooms.{room_small}
-use borrow.Author.Rules.{rules}
 use Rattle.meld.proofs.melding.meld_small.Goals as goal
 
 pub meld_with-requires : goal.meld_with-requires

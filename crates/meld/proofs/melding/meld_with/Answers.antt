@@ -5,7 +5,6 @@ use native.Mathlib.Omega.{arith}
 use lib.Seq.{length-take-le}
 use Rattle.meld.proofs.Readings.{read_none, read_some}
 use Rattle.meld.proofs.Whole.{used_up, has_left, is_malformed, is_meldable, melded_lists}
-use borrow.Author.Rules.{rules}
 use Rattle.meld.proofs.melding.meld_with.Goals as goal
 
 pub returns-then-read_header : goal.returns-then-read_header

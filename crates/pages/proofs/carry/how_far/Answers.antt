@@ -1,7 +1,6 @@
 -- `carry::how_far` meets its contract: the two bytes of the length may be carried, be in the part, or lie in both (Lengths.antt).
 -- Assumes nothing.
 use native.Mathlib.Omega.{arith}
-use borrow.Author.Rules.{rules}
 use Rattle.pages.proofs.Lengths.{length_not_in, far_carried, far_in_part, far_in_both}
 use Rattle.pages.proofs.carry.how_far.Goals as goal
 

@@ -1,12 +1,10 @@
 -- `carry::put_behind` meets its contract. The invariant of its loop: the carry is what it was with the first i bytes of the part behind those
 -- carried (Stored.antt), and as long as it was.
 -- Assumes nothing.
-use Prim.Native.Nat.{◌+◌, ◌-◌, ◌≤◌}
-use mathlib.Core.Path.{◌≡◌, refl, ◌∙◌}
-use native.Mathlib.Omega.{arith}
-use lib.ListN.{length, length-set}
-use lib.Seq.{paste, paste-zero}
-use Rattle.pages.proofs.Stored.{stored_more, stored_all}
+use Prim.Native.Nat.{◌-◌, ◌≤◌}
+use mathlib.Core.Path.{◌≡◌}
+use lib.ListN.{length}
+use lib.Seq.{paste}
 use Rattle.pages.proofs.carry.put_behind.Given as goal
 
 abbrev pub invariant-loop-i : goal.invariant-loop-i

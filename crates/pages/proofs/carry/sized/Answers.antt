@@ -1,6 +1,5 @@
 -- `carry::sized` meets its contract: by whether the length can be (Lengths.antt).
 -- Assumes nothing.
-use borrow.Author.Rules.{rules}
 use Rattle.pages.proofs.Lengths.{says_impossible, says_sized}
 use Rattle.pages.proofs.carry.sized.Goals as goal
 

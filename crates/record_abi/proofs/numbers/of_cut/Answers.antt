@@ -1,6 +1,5 @@
 -- `record_abi::numbers::of_cut` meets its promise, by cases on what was found.
 use Rattle.record_abi.proofs.Carried.{known_cut}
-use borrow.Author.Rules.{rules}
 use Rattle.record_abi.proofs.numbers.of_cut.Goals as goal
 
 pub returns-in-End : goal.returns-in-End
