@@ -2,7 +2,7 @@
 -- gets its answer.
 -- Assumes nothing.
 use Prim.Native.Nat.{ℕ, ◌-◌, ◌≤◌}
-use mathlib.Core.Path.{◌≡◌, refl, sym, ap, subst, ◌∙◌}
+use mathlib.Core.Path.{◌≡◌, refl, ap, subst}
 use mathlib.Core.Bool.{Bool, cond}
 use mathlib.Core.Option.{Option, none, some}
 use mathlib.Core.List.{List}
@@ -15,7 +15,7 @@ use Rattle.rules.specs.State.{Entry, State, Lawful}
 use Rattle.rules.proofs.Finding.{find_of}
 use Rattle.rules.specs.Verdict.{Verdict, committed, conflict, too_old, no_room, malformed, ahead, positions_used_up, verdict}
 use Rattle.rules.specs.Lookup.{Seen, absent, found, find, payload_at, seen, lookup}
-use Rattle.pool.specs.Image.{Arrangement, Image, Fit, state_of}
+use Rattle.pool.specs.Image.{Arrangement, Image, state_of}
 use Rattle.record_log.specs.declared.found.Cut.{Cut}
 use Rattle.record_log.specs.declared.found.Cut.TheVariants.{End, Torn, Impossible, Record}
 use Rattle.record_log.specs.Log.{cut_at, part_of}
@@ -28,9 +28,8 @@ use Rattle.reason.specs.declared.told.Touch.TheVariants.{Point, Scan}
 use Rattle.reason.specs.declared.told.Reason.{Reason}
 use Rattle.reason.specs.Reason.{IsNumber, first, later, TouchedBy, by_point, by_scan, ReasonFor, TrueReason}
 use Rattle.abi.specs.declared.numbers.LookupNumbers.{LookupNumbers}
-use Rattle.abi.specs.declared.numbers.ReasonNumbers.{ReasonNumbers}
 use Rattle.abi.specs.Numbers as Numbers
-use Rattle.abi.specs.Told.{LooksUpAs, LookupTells, in_refreshed, InForceAs, ExplainsInNumbers, TouchTells, is_point, is_scan, BlameTells, ReasonTells, ExplainTells}
+use Rattle.abi.specs.Told.{LooksUpAs, LookupTells, in_refreshed, InForceAs, ExplainsInNumbers, TouchTells, is_point, is_scan, ReasonTells, ExplainTells}
 
 -- A LOOKUP
 

@@ -15,7 +15,7 @@ use Rattle.record_log.specs.declared.found.Cut.TheVariants.{End, Torn, Impossibl
 use Rattle.record_log.specs.Log.{cut_at, part_of}
 use Rattle.record_log.proofs.Stands.{record_tells}
 use Rattle.record_log.proofs.Walk.{sized_at, sized_range}
-use Rattle.in_force.specs.InForce.{Source, original, refreshed, nothing, source_of, if_cut, bytes_from, InForce}
+use Rattle.in_force.specs.InForce.{Source, original, nothing, source_of, if_cut, bytes_from, InForce}
 use Rattle.record_abi.specs.Numbers.{answer}
 use Rattle.abi.specs.Told.{in_refreshed, InForceAs}
 

@@ -2,7 +2,7 @@
 -- the numbers of a lookup and of a reason say of the case behind them.
 -- Assumes nothing: these are definitions.
 use Rattle.std.specs.Prelude.{ℕ, ◌-◌, ◌≤◌, ◌≡◌, Bool, true, false, List, length}
-use Rattle.std.proofs.Math.Option.{Option, none, some}
+use Rattle.std.proofs.Math.Option.{none, some}
 use Rattle.record.specs.Record.{Rec}
 use Rattle.record.specs.Parse.{parse}
 use Rattle.rules.specs.State.{Entry, State}

@@ -21,7 +21,6 @@ use Rattle.pool.specs.Image.{Fit}
 use Rattle.create.specs.Fresh.{fresh_plan}
 use Rattle.meld.specs.declared.melding.Melded.{Melded}
 use Rattle.meld.specs.Melds.{Melds}
-use Rattle.pages.specs.declared.told.Happened.TheVariants.{End}
 use Rattle.pages.specs.declared.told.Fed.{Fed}
 use Rattle.pages.specs.Pages.{bytes_in, cannot_be, whole_in, record_in, feed_row}
 use Rattle.pages.specs.Pages.{FeedRow, wrong_carry, stuck, cannot_go_on, record_whole, goes_on, at_end, torn, RecordDecided, FeedsAs, Feeds}

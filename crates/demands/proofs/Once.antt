@@ -1,7 +1,7 @@
 -- One refresh on bytes, and the record in force after it, as the rules say it.
 -- The idea: answer 0 leaves the refreshed record at the front of the buffer; its length field makes the log rule find exactly it.
 -- Assumes nothing.
-use Prim.Native.Nat.{ℕ, ◌+◌, ◌-◌, ◌≤◌}
+use Prim.Native.Nat.{ℕ, ◌-◌, ◌≤◌}
 use mathlib.Core.Path.{◌≡◌, refl, sym, ap, ◌∙◌, subst}
 use mathlib.Core.Option.{Option, some}
 use mathlib.Core.List.{List, [], ◌++◌}

@@ -5,7 +5,7 @@ use mathlib.Core.Path.{◌≡◌, refl, sym, ap, ◌∙◌, subst}
 use mathlib.Core.Logic.{◌⊎◌, ⊎_elim}
 use mathlib.Core.Bool.{Bool, true, false}
 use mathlib.Core.Option.{some}
-use mathlib.Core.List.{List, map}
+use mathlib.Core.List.{List}
 use native.Mathlib.Omega.{arith}
 use lib.ListN.{length, length-map}
 use lib.Dec.{T, ltb}
@@ -13,7 +13,7 @@ use borrow.Author.Tests.{ltb-false}
 use Rattle.record.specs.declared.answer.Answer.{Answer}
 use Rattle.record.specs.declared.point.Scan.{Scan}
 use Rattle.record.specs.Answer as Numbers
-use Rattle.record.specs.Record.{Rec, key_of, kind_of}
+use Rattle.record.specs.Record.{Rec}
 use Rattle.record.specs.Reader.{high_of}
 use Rattle.words.specs.Choice.{if◌then◌else◌}
 use Rattle.nodes.specs.declared.header.Header.{Header}
@@ -29,20 +29,19 @@ use Rattle.pool.specs.Image.{Arrangement, Image, Fit, state_of}
 use Rattle.conflict_search.specs.Sorted.{Sorted, footprint}
 use Rattle.conflict_search.specs.Smallest.{NamedLeaf}
 use Rattle.conflict_search.proofs.Reach.{sorted_valid, footprint_reach}
-use Rattle.judge.specs.declared.judged.Judged.{Judged}
 use Rattle.judge.specs.declared.judged.Named.{Named}
 use Rattle.judge.specs.Judged.{judged_of, named_in}
 use Rattle.judge.proofs.NamedLaws.{one_is_conflict, named_smallest}
 use Rattle.room.specs.declared.room.Room.{Room}
 use Rattle.room.specs.declared.room.Room.TheVariants.{Enough, AfterDrop, TooLittle}
-use Rattle.room.specs.Room.{RoomSaid, said_by, room_in, Writable, RoomIs}
+use Rattle.room.specs.Room.{said_by, room_in, Writable, RoomIs}
 use Rattle.meld.specs.Lists.{Names}
 use Rattle.meld.proofs.Judging.{Stops, at_ahead, at_too_old, at_conflict, Decided, Open, decided, too_little, after_drop, enough}
 use Rattle.reason.specs.declared.told.Touch.{Touch}
 use Rattle.reason.specs.declared.told.Reason.{Reason}
 use Rattle.reason.specs.declared.told.Reason.TheVariants.{Nothing, Conflict, TooOld, NoRoom}
 use Rattle.reason.specs.declared.told.Explained.{Explained}
-use Rattle.reason.specs.Reason.{InConflict, reason_told, TouchedBy, Blames, ReasonFor, ExplainsAs}
+use Rattle.reason.specs.Reason.{InConflict, reason_told, TouchedBy, ReasonFor, ExplainsAs}
 use Rattle.reason.specs.Steps.{plainly, TouchLists, TouchIs, Blamable, BlameIs, Explainable, ExplainsLists}
 
 -- BLAME

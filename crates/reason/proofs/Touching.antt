@@ -2,7 +2,7 @@
 -- Assumes nothing.
 use Prim.Native.Nat.{ℕ, zero, suc, ◌+◌, ◌≤◌, ◌<◌}
 use mathlib.Core.Path.{◌≡◌, refl, sym, ap, ◌∙◌, subst}
-use mathlib.Core.Logic.{◌⊎◌, inl, inr}
+use mathlib.Core.Logic.{inl, inr}
 use mathlib.Core.Bool.{Bool, true, false, ◌&&◌}
 use mathlib.Core.List.Memᴰ.{head as here}
 use mathlib.Core.List.Memᴰ.{tail as there}
@@ -13,14 +13,14 @@ use lib.Dec.{T, ltb, ltb→lt}
 use borrow.Author.Tests.{lt-ltb, ltb-false}
 use Rattle.record.specs.declared.point.Point.{Point}
 use Rattle.record.specs.declared.point.Scan.{Scan}
-use Rattle.record.specs.Record.{Rec, Valid, key_of, PointsRise, Apart}
+use Rattle.record.specs.Record.{key_of, PointsRise, Apart}
 use Rattle.record.specs.Reader.{high_of}
 use Rattle.rules.specs.Demands.{Reaches}
 use Rattle.rules.proofs.Tests.{left_of_lem, right_of_lem}
 use Rattle.conflict_search.specs.Cursor.{Reached, below_at}
 use Rattle.reason.specs.declared.told.Touch.TheVariants as Touches
 use Rattle.reason.specs.Reason.{IsNumber, first, later, TouchedBy, by_point, by_scan}
-use Rattle.reason.specs.Steps.{TouchLists, TouchIs}
+use Rattle.reason.specs.Steps.{TouchIs}
 use Rattle.reason.proofs.Above.{above, beyond_low}
 
 -- POINTS

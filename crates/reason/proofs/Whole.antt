@@ -13,7 +13,7 @@ use Rattle.record.specs.Parse.{parse}
 use Rattle.nodes.specs.declared.header.Header.{Header}
 use Rattle.nodes.specs.Nodes.{header_at}
 use Rattle.rules.specs.State.{State, last_position}
-use Rattle.rules.specs.Verdict.{Verdict, positions_used_up, verdict}
+use Rattle.rules.specs.Verdict.{positions_used_up, verdict}
 use Rattle.rules.specs.Tree.{looks_of}
 use Rattle.rules.proofs.Near.{verdict_last}
 use Rattle.pool.specs.Image.{Arrangement, Image, Fit, state_of}

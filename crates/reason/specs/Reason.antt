@@ -1,7 +1,7 @@
 -- The reason of an answer (R50): who beat a record, how far it lags, how many keys have to find room. Said by the state and not by the search.
 -- Assumes nothing: these are definitions.
 use Rattle.std.specs.Prelude.{ℕ, suc, ◌-◌, ◌≤◌, ◌<◌, ◌≡◌}
-use mathlib.Core.List.{List, [], ◌∷◌, Memᴰ as Mem}
+use mathlib.Core.List.{List, ◌∷◌, Memᴰ as Mem}
 use Rattle.std.proofs.Math.Option.{Option, none, some}
 use Rattle.record.specs.declared.answer.Answer.{Answer}
 use Rattle.record.specs.declared.point.Point.{Point}
@@ -13,7 +13,6 @@ use Rattle.rules.specs.State.{Entry, State}
 use Rattle.rules.specs.Demands.{Reaches}
 use Rattle.rules.specs.Verdict.{Verdict, committed, conflict, too_old, no_room, malformed, ahead, positions_used_up, count, verdict}
 use Rattle.pool.specs.Image.{Arrangement, Image, Fit, state_of}
-use Rattle.meld.specs.declared.melding.Melded.{Melded}
 use Rattle.meld.specs.Melds.{melded_of}
 use Rattle.reason.specs.declared.told.Touch.{Touch}
 use Rattle.reason.specs.declared.told.Touch.TheVariants as Touches

@@ -1,55 +1,14 @@
--- What is told of a read's answer: one law for the function that tells it, one for the read.
+-- What reads one behind the other leave.
 -- Assumes nothing.
 use Prim.Native.Nat.{ℕ, ◌+◌, ◌-◌, ◌≤◌}
 use mathlib.Core.Path.{◌≡◌, refl, sym, ap, ◌∙◌}
 use mathlib.Core.Bool.{Bool, false}
 use mathlib.Core.List.{List}
 use native.Mathlib.Omega.{arith}
-use lib.IntN.{ℤ, pos, negsuc}
-use lib.Signed.{lt_z}
-use borrow.Author.Tests.{le-ltb}
 use lib.ListN.{length, take, drop, length-drop}
 use lib.Seq.{length-take-le, take-take}
-use Rattle.io.specs.Counts.{clamp_len}
 use Rattle.stream.specs.declared.input.Filled.{Filled}
-use Rattle.stream.specs.Buffer.{failed_by, filled_by, Refilled, Reads, none_yet, one_more, FilledUp, full, stopped}
-
--- an answer below 0 is one that failed
-below_zero : (got : ℤ) → lt_z got (pos 0) ≡ failed_by got
-below_zero (pos n) = le-ltb n 0 (omega arith)
-below_zero (negsuc n) = refl
-
--- so many bytes as the part behind the bytes held has
-pub part_length : (buffer : List ℕ) (held : ℕ) → length (take (length buffer - held) (drop held buffer)) ≡ length buffer - held
-part_length buffer held = length-take-le (length buffer - held) (drop held buffer) (omega (arith, length-drop held buffer))
-
--- what is told
-pub told_is : (got z : ℤ) (held n k size : ℕ) → z ≡ got → n ≡ clamp_len z k → k ≡ size - held
-    → ◌≡◌ {A = Filled} (record { held = held + n; failed = lt_z z (pos 0) }) (filled_by got held size)
-told_is got z held n k size e c l =
-    ap (λ (i : ℕ). record { held = held + i; failed = lt_z z (pos 0) }) (c ∙ ap (clamp_len z) l)
-    ∙ ap (λ (i : ℤ). record { held = held + clamp_len i (size - held); failed = lt_z i (pos 0) }) e
-    ∙ ap (λ (b : Bool). record { held = held + clamp_len got (size - held); failed = b }) (below_zero got)
-
--- never more than there is room for
-clamped_most : (got : ℤ) (n : ℕ) → clamp_len got n ≤ n
-clamped_most (pos k) n = omega arith
-clamped_most (negsuc k) n = omega arith
-
--- a read behind the bytes held
-pub refilled : (before after : List ℕ) (held : ℕ) (got : ℤ) (r : Filled) → held ≤ length before → length after ≡ length before
-    → take held after ≡ take held before → r ≡ filled_by got held (length after) → Refilled held before after r
-refilled before after held got r inside long kept told =
-    let e : r ≡ filled_by got held (length before) = told ∙ ap (filled_by got held) long in
-    let h : r.held ≡ held + clamp_len got (length before - held) = ap (λ (x : Filled). x.held) e in
-    record {
-      as_long = long;
-      kept = kept;
-      got = got;
-      told = e;
-      least = omega (arith, h);
-      most = omega (arith, h, long, inside, clamped_most got (length before - held));
-    }
+use Rattle.stream.specs.Buffer.{Refilled, Reads, none_yet, one_more, FilledUp, full, stopped}
 
 -- reads one behind the other hold no more than there is room for
 pub record Held (held₀ : ℕ) (before : List ℕ) (held : ℕ) (after : List ℕ) : Type 0 where

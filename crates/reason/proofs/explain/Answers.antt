@@ -1,7 +1,6 @@
 -- `explain` meets its promise: the check decides whether there is a state (Whole.antt).
 use Rattle.meld.proofs.Lookups.{now_fit}
 use Rattle.reason.proofs.Whole.{refuses, explains}
-use borrow.Author.Rules.{rules}
 use Rattle.std.proofs.lemmas.Bool.{not_from_false, not_from_true}
 use Rattle.reason.proofs.explain.Goals as goal
 

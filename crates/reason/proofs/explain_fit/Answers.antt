@@ -1,7 +1,6 @@
 -- `explain_fit` meets its promise: the lists follow the version byte.
 -- Assumes nothing.
 use mathlib.Core.Path.{sym, ◌∙◌}
-use borrow.Author.Rules.{rules}
 use Rattle.reason.proofs.explain_fit.Goals as goal
 
 pub explain_small-requires : goal.explain_small-requires

@@ -1,7 +1,6 @@
 -- `explain_large` meets its promise: the lists have room for every record.
 -- Assumes nothing.
 use Rattle.record.proofs.Rooms.{room_large}
-use borrow.Author.Rules.{rules}
 use Rattle.reason.proofs.explain_large.Goals as goal
 
 pub explain_with-requires : goal.explain_with-requires

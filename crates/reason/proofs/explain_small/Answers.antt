@@ -1,7 +1,6 @@
 -- `explain_small` meets its promise: the lists have room for such a record.
 -- Assumes nothing.
 use Rattle.record.proofs.Rooms.{room_small}
-use borrow.Author.Rules.{rules}
 use Rattle.reason.proofs.explain_small.Goals as goal
 
 pub explain_with-requires : goal.explain_with-requires

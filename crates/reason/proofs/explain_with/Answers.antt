@@ -5,7 +5,6 @@ use native.Mathlib.Omega.{arith}
 use lib.Seq.{length-take-le}
 use Rattle.meld.proofs.Readings.{read_none, read_some}
 use Rattle.reason.proofs.Whole.{used_up, is_malformed, is_explainable, lists_explained}
-use borrow.Author.Rules.{rules}
 use Rattle.reason.proofs.explain_with.Goals as goal
 
 pub returns-then-read_header-eq-LAST_POSITION : goal.returns-then-read_header-eq-LAST_POSITION

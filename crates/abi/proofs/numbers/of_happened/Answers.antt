@@ -1,7 +1,6 @@
 -- `abi::numbers::of_happened` meets its promise, by cases on what happened.
 use mathlib.Core.Path.{sym, ap}
 use Rattle.abi.specs.Numbers.{of_happened}
-use borrow.Author.Rules.{rules}
 use Rattle.abi.proofs.numbers.of_happened.Goals as goal
 
 pub returns-in-Decided : goal.returns-in-Decided

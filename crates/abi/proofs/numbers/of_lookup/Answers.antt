@@ -1,7 +1,6 @@
 -- `abi::numbers::of_lookup` meets its promise, by cases on what was kept.
 use mathlib.Core.Path.{sym, ap}
 use Rattle.abi.specs.Numbers.{of_lookup}
-use borrow.Author.Rules.{rules}
 use Rattle.abi.proofs.numbers.of_lookup.Goals as goal
 
 pub returns-in-Unfit : goal.returns-in-Unfit

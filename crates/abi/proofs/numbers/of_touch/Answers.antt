@@ -1,7 +1,6 @@
 -- `abi::numbers::of_touch` meets its promise, by cases on what touches the key.
 use mathlib.Core.Path.{sym, ap}
 use Rattle.abi.specs.Numbers.{of_touch}
-use borrow.Author.Rules.{rules}
 use Rattle.abi.proofs.numbers.of_touch.Goals as goal
 
 pub returns-in-Point : goal.returns-in-Point

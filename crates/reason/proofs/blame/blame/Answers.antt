@@ -1,6 +1,5 @@
 -- `blame::blame` meets its promise: the leaf's words are those of the smallest key in conflict (Explaining.antt).
 use Rattle.reason.proofs.Explaining.{leaf_within, highs_few, blames}
-use borrow.Author.Rules.{rules}
 use Rattle.reason.proofs.blame.blame.Goals as goal
 
 pub read_node-n-requires : goal.read_node-n-requires

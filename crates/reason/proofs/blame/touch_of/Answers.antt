@@ -1,7 +1,6 @@
 -- `blame::touch_of` meets its promise: one law for each return (Touching.antt).
 use mathlib.Core.Path.{sym, ◌∙◌}
 use Rattle.reason.proofs.Touching.{point_touches, scan_touches}
-use borrow.Author.Rules.{rules}
 use Rattle.reason.proofs.blame.touch_of.Goals as goal
 
 pub returns-then-below : goal.returns-then-below

@@ -1,6 +1,5 @@
 -- `lists::explain_lists` meets its promise: one law for each return and each call (Explaining.antt).
 use Rattle.reason.proofs.Explaining.{is_fit, are_sorted, is_writable, plainly_explained, is_blamable, conflict_explained, lag_fits, old_explained, ahead_explained, crowded_explained, lean_explained, whole_explained}
-use borrow.Author.Rules.{rules}
 use Rattle.reason.proofs.lists.explain_lists.Goals as goal
 
 pub judge_and_name-named-requires : goal.judge_and_name-named-requires
