@@ -20,10 +20,10 @@ pub slice_bounds-open-end : goal.slice_bounds-open-end
 slice_bounds-open-end g c = sym (length-take-le _ _ (omega (arith, (filled_front _ _ _ _ (omega arith) c.fill-limits.ensures.filled).inside)))
 
 pub returns-then-answer : goal.returns-then-answer
-returns-then-answer g c = ends_refused _ _ _ _ c.fill-limits.ensures.filled _ _ (search rules) c.«open».ensures c.if-answer.true
+returns-then-answer g c = ends_refused _ _ _ _ c.fill-limits.ensures.filled _ _ (search rules) c.open-asked.ensures c.if-answer.true
 
 pub slice_bounds-meld_through-end-2 : goal.slice_bounds-meld_through-end-2
-slice_bounds-meld_through-end-2 g c = sym (length-take-le _ _ (omega (arith, c.«open».ensures.within)))
+slice_bounds-meld_through-end-2 g c = sym (length-take-le _ _ (omega (arith, c.open-asked.ensures.within)))
 
 pub returns : goal.returns
-returns g c = ends_melded _ _ _ _ c.fill-limits.ensures.filled _ _ _ _ _ _ (search rules) c.«open».ensures (search rules) (length-replicate {A = ℕ} 13835 0) c.meld_through.ensures
+returns g c = ends_melded _ _ _ _ c.fill-limits.ensures.filled _ _ _ _ _ _ (search rules) c.open-asked.ensures (search rules) (length-replicate {A = ℕ} 13835 0) c.meld_through.ensures
