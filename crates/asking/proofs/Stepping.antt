@@ -1,6 +1,6 @@
 -- The steps over a log, one law for each way in which they go on or end.
 -- Assumes nothing.
-use Rattle.std.proofs.Common.{◌≡◌, ℕ, ◌-◌, ◌≤◌, true, false, ◌⊎◌, List, [], ◌∷◌, length, take, sym, ap, ◌∙◌, ⊎_elim, arith, length-take-le}
+use Rattle.std.proofs.Common.{◌≡◌, ℕ, ◌≤◌, true, false, List, [], ◌∷◌, length, take, sym, ap, ◌∙◌, ⊎_elim, arith, length-take-le}
 use denote.Enum.Declared.{tag_of}
 use types.Run.{OneOf}
 use Rattle.record_log.specs.declared.found.Cut.{Cut}
