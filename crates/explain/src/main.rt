@@ -6,7 +6,7 @@
 mod arguments;
 mod reading;
 
-ghost use Rattle.std.specs.Prelude.{◌≤◌, length};
+ghost use Rattle.std.specs.Prelude.{◌≤◌, ◌<◌, ◌^◌, length};
 ghost use Rattle.lines.specs.Opening.{size_for};
 ghost use Rattle.explain.specs.Program.{largest_n, ProgramAsks};
 
@@ -112,11 +112,23 @@ fn answer<R: Env + Files, P: Print, E: Print>(
     }
 }
 
+// Answers what the arguments ask, with so many bytes for a pool.
+fn answer_within<const SIZE: usize, R: Env + Files, P: Print, E: Print>(
+    rt: &R,
+    out: &mut Output<P>,
+    complaints: &mut Output<E>,
+)
+    requires enough { size_for largest_n ≤ SIZE }
+    requires addressed { SIZE < 2 ^ 63 }
+{
+    let mut pool = [0u8; SIZE];
+    answer(rt, out, complaints, &mut pool);
+}
+
 fn main(rt: HostRuntime) -> io::Result<()> {
-    let mut pool = [0u8; POOL];
     let mut out = Output::new(rt.stdout());
     let mut complaints = Output::new(rt.stderr());
-    answer(&rt, &mut out, &mut complaints, &mut pool);
+    answer_within::<POOL, _, _, _>(&rt, &mut out, &mut complaints);
     out.end()?;
     complaints.end()
 }
