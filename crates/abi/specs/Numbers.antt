@@ -1,7 +1,8 @@
 -- The pool's answers and results, put together from the plain numbers that C is given. Those of the record part stand in `record_abi`.
 -- Assumes nothing: these are definitions.
 use Rattle.std.specs.Prelude.{ℕ, eqb}
-use Rattle.words.specs.Choice.{value_or, if◌then◌else◌}
+use Rattle.words.specs.Choice.{value_or}
+use Rattle.std.specs.Prelude.{if◌then◌else◌}
 use Rattle.record_abi.specs.Numbers.{answer, number_in}
 use Rattle.meld.specs.declared.kept.Lookup.{Lookup}
 use Rattle.meld.specs.declared.kept.Status.{Status}

@@ -1,7 +1,7 @@
 -- The number that an argument gives in decimal digits (R52).
 -- Assumes nothing: these are definitions.
 use Rattle.std.specs.Prelude.{ℕ, ◌+◌, ◌-◌, ◌*◌, Bool, true, ◌&&◌, List, [], ◌∷◌, nat_le, nat_lt}
-use Rattle.words.specs.Choice.{if◌then◌else◌}
+use Rattle.std.specs.Prelude.{if◌then◌else◌}
 use Rattle.rules.specs.State.{last_position}
 use Rattle.asking.specs.declared.digits.Number.{Number}
 use Rattle.asking.specs.declared.digits.Number.TheVariants.{Nothing, Is}

@@ -11,7 +11,7 @@ use lib.Count.{count_leading_zeros, leading_of_zero, leading_top}
 use lib.Dec.{eqb}
 use lib.Pow.{pow-add, pow_pos}
 use borrow.Author.Tests.{eqb-true, eqb-false}
-use Rattle.words.specs.Choice.{if◌then◌else◌}
+use Rattle.std.specs.Prelude.{if◌then◌else◌}
 use Rattle.bits.specs.Bits.{part_from, part_height}
 
 -- THE LEAST

@@ -1,7 +1,7 @@
 -- The height where two keys part.
 -- Assumes nothing: these are definitions.
 use Rattle.std.specs.Prelude.{ℕ, zero, suc, ◌/◌, ◌^◌, eqb}
-use Rattle.words.specs.Choice.{if◌then◌else◌}
+use Rattle.std.specs.Prelude.{if◌then◌else◌}
 
 -- the least height from h on at which x and y have the same bits above it, after f more heights at most
 unfoldable pub part_from : ℕ → ℕ → ℕ → ℕ → ℕ

@@ -12,7 +12,7 @@ use lib.Dec.{ltb}
 use Rattle.record.specs.declared.point.Point.{Point}
 use Rattle.record.specs.declared.point.Point.TheVariants.{Read, Put, Delete}
 use Rattle.record.specs.Record.{kind_of, key_of, payload_of}
-use Rattle.words.specs.Choice.{if◌then◌else◌}
+use Rattle.std.specs.Prelude.{if◌then◌else◌}
 use Rattle.rules.specs.State.{Entry, State}
 use Rattle.rules.specs.Verdict.{store, store_all}
 use Rattle.pool.specs.Image.{Arrangement, Arranged, state_of}

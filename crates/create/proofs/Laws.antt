@@ -18,7 +18,7 @@ use Rattle.nodes.specs.declared.header.Header.{Header}
 use Rattle.nodes.specs.Nodes.{node_at, put_node, header_at, put_header}
 use Rattle.nodes.specs.Laws.{length_node, bytes_node, node_put, node_apart, node_same, length_header, bytes_header, byte_header, header_put, node_header}
 use Rattle.record.specs.Answer.{committed, bad_limits}
-use Rattle.words.specs.Choice.{if◌then◌else◌}
+use Rattle.std.specs.Prelude.{if◌then◌else◌}
 use Rattle.rules.specs.State.{Rising}
 use Rattle.rules.specs.Tree.{entries}
 use Rattle.rules.proofs.Trees.{tree_none}

@@ -4,7 +4,7 @@ use Rattle.std.specs.Prelude.{ℕ, ◌+◌, ◌-◌, ◌≤◌, ◌<◌, ◌≡�
 use Rattle.words.specs.Word.{Bytes}
 use Rattle.nodes.specs.Nodes.{node_at}
 use Rattle.pool.specs.Plan.{free_node, no_node}
-use Rattle.words.specs.Choice.{if◌then◌else◌}
+use Rattle.std.specs.Prelude.{if◌then◌else◌}
 
 -- what stands behind free node i of so many
 abbrev pub next_free : ℕ → ℕ → ℕ

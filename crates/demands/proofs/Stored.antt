@@ -13,7 +13,7 @@ use lib.ListN.{length, take}
 use lib.Seq.{take_all}
 use borrow.Author.Tests.{lt-ltb, ltb-true}
 use Rattle.words.specs.Word.{Bytes}
-use Rattle.words.specs.Choice.{if◌then◌else◌}
+use Rattle.std.specs.Prelude.{if◌then◌else◌}
 use Rattle.record.specs.Record.{Rec}
 use Rattle.record.specs.Answer as Names
 use Rattle.record.specs.Parse.{parse}

@@ -14,7 +14,7 @@ use mathlib.Core.Option.{Option, none, some}
 use lib.Dec.{T, eqb, eqb→eq, T_not}
 use lib.ListN.{length}
 use Rattle.record.specs.Record.{Rec}
-use Rattle.words.specs.Choice.{if◌then◌else◌}
+use Rattle.std.specs.Prelude.{if◌then◌else◌}
 use Rattle.rules.specs.State.{Entry, State, fresh, last_position}
 use Rattle.rules.specs.Footprint.{writes_of}
 use Rattle.rules.specs.Verdict.{Verdict, committed, conflict, too_old, no_room, malformed, ahead, positions_used_up, points_of, verdict, next}

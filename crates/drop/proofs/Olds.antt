@@ -10,7 +10,7 @@ use mathlib.Core.List.Memᴰ.{tail as there}
 use mathlib.Core.List.{List, [], ◌∷◌, Memᴰ as Mem}
 use lib.Dec.{T, ltb, leb, ltb→lt, leb→le, le→leb, not_T, T_not}
 use lib.ListN.{length, length-append}
-use Rattle.words.specs.Choice.{if◌then◌else◌}
+use Rattle.std.specs.Prelude.{if◌then◌else◌}
 use Rattle.rules.specs.Lists.{keep}
 use Rattle.rules.specs.State.{Entry, is_live}
 use Rattle.rules.specs.Verdict.{young}

@@ -11,7 +11,7 @@ use lib.Pow.{pow_pos}
 use borrow.Author.Tests.{eq-eqb, ne_eqb, not-true, not-false}
 use Rattle.nodes.specs.declared.node.Node.{Node}
 use Rattle.nodes.specs.Nodes.{node_at}
-use Rattle.words.specs.Choice.{if◌then◌else◌}
+use Rattle.std.specs.Prelude.{if◌then◌else◌}
 use Rattle.pool.specs.Times.{bit}
 use Rattle.fit.specs.Check.{leaf_ok, inner_ok, cover_middle, cover_end, both, leaves_at}
 use Rattle.fit.proofs.Tests.{leaf_facts, is_false}

@@ -14,7 +14,7 @@ use Rattle.words.specs.Word.{Bytes}
 use Rattle.nodes.specs.declared.header.Header.{Header}
 use Rattle.nodes.specs.Nodes.{node_at, header_at}
 use Rattle.nodes.specs.Laws.{header_fits}
-use Rattle.words.specs.Choice.{if◌then◌else◌}
+use Rattle.std.specs.Prelude.{if◌then◌else◌}
 use Rattle.rules.specs.State.{Entry, Rising}
 use Rattle.rules.specs.Tree.{entries, newest}
 use Rattle.rules.proofs.Tests.{le_or_lt}

@@ -18,7 +18,7 @@ use Rattle.words.specs.Word.{Bytes}
 use Rattle.nodes.specs.declared.node.Node.{Node}
 use Rattle.nodes.specs.Nodes.{node_at}
 use Rattle.nodes.specs.Laws.{node_fits}
-use Rattle.words.specs.Choice.{if◌then◌else◌}
+use Rattle.std.specs.Prelude.{if◌then◌else◌}
 use Rattle.rules.specs.State.{Entry, Fits}
 use Rattle.rules.specs.Tree.{entries, newest, oldest}
 use Rattle.pool.specs.Plan.{Plan, leaf, node, tree_in, number, numbers, root_node}

@@ -1,7 +1,7 @@
 -- What the two passes meet of the scans, step by step. No public promise cites it: proofs show that it is what R57 says.
 -- Assumes nothing: these are definitions.
 use Rattle.std.specs.Prelude.{ℕ, zero, suc, ◌+◌, ◌*◌, ◌-◌, ◌≤◌, true, ◌≡◌, List, [], ◌∷◌, length, leb, ltb}
-use Rattle.words.specs.Choice.{if◌then◌else◌}
+use Rattle.std.specs.Prelude.{if◌then◌else◌}
 use Rattle.record.specs.declared.point.Scan.{Scan}
 use Rattle.record.specs.declared.checker.End.{End}
 use Rattle.record.specs.Parse.{Parsed, bad, took, also, is_took, list_of, parse_scans}

@@ -9,7 +9,7 @@ use borrow.Author.Tests.{lt-ltb, le-ltb, eq-eqb, ne_eqb}
 use Rattle.record.specs.declared.point.Scan.{Scan}
 use Rattle.nodes.specs.declared.header.Header.{Header}
 use Rattle.nodes.specs.Nodes.{header_at}
-use Rattle.words.specs.Choice.{if◌then◌else◌}
+use Rattle.std.specs.Prelude.{if◌then◌else◌}
 use Rattle.rules.specs.Lists.{any}
 use Rattle.rules.specs.Verdict.{Verdict, committed, conflict, too_old, ahead, hits, refusal_or}
 use Rattle.rules.specs.Tree.{Tree, tree_of, walk}

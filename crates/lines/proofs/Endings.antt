@@ -1,7 +1,7 @@
 -- How a log ends, by what was said of it: a law for each return of the functions that tell it.
 -- Assumes nothing.
 use Rattle.std.proofs.Common.{◌≡◌, Bool, sym, ap, ◌∙◌, eq-eqb, ne_eqb}
-use Rattle.words.specs.Choice.{if◌then◌else◌}
+use Rattle.std.specs.Prelude.{if◌then◌else◌}
 use Rattle.record.specs.declared.answer.Answer.{Answer}
 use Rattle.record_log.specs.declared.found.Cut.{Cut}
 use Rattle.record_log.specs.declared.found.Cut.TheVariants as Cuts

@@ -1,7 +1,8 @@
 -- A log fed part by part, with a line for each record decided (R41, R47).
 -- Assumes nothing: these are definitions.
 use Rattle.std.specs.Prelude.{◌≡◌, ℕ, ◌+◌, ◌%◌, ◌^◌, ◌≤◌, Bool, true, false, List, [], ◌∷◌, ◌++◌, length, drop, ◌==◌}
-use Rattle.words.specs.Choice.{if◌then◌else◌, value_or}
+use Rattle.words.specs.Choice.{value_or}
+use Rattle.std.specs.Prelude.{if◌then◌else◌}
 use Rattle.record.specs.declared.answer.Answer.{Answer}
 use Rattle.record.specs.Answer.{committed, impossible_length}
 use Rattle.record_log.specs.declared.found.Cut.{Cut}

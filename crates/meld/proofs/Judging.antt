@@ -14,7 +14,7 @@ use Rattle.record.specs.declared.point.Point.{Point}
 use Rattle.record.specs.declared.answer.Answer.{Answer}
 use Rattle.record.specs.Answer as Names
 use Rattle.record.specs.Record.{Rec, Valid}
-use Rattle.words.specs.Choice.{if◌then◌else◌}
+use Rattle.std.specs.Prelude.{if◌then◌else◌}
 use Rattle.rules.specs.State.{State, Lawful, last_position}
 use Rattle.rules.specs.Footprint.{reach}
 use Rattle.rules.specs.Verdict.{Verdict, conflict, too_old, ahead, verdict_answer, conflicts, whole, drops, count, refusal_or, no_room_or_committed, judge, verdict}

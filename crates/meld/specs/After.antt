@@ -4,7 +4,7 @@ use Rattle.std.proofs.Math.Option.{Option}
 use Rattle.std.specs.Prelude.{List}
 use Rattle.record.specs.declared.point.Point.{Point}
 use Rattle.record.specs.Record.{Rec}
-use Rattle.words.specs.Choice.{if◌then◌else◌}
+use Rattle.std.specs.Prelude.{if◌then◌else◌}
 use Rattle.rules.specs.Footprint.{writes_of}
 use Rattle.rules.specs.Verdict.{Verdict, committed, conflict, too_old, no_room, malformed, ahead, positions_used_up, drops, verdict, points_of}
 use Rattle.pool.specs.Image.{Arrangement, state_of}

@@ -11,7 +11,7 @@ use native.Mathlib.Decide.{dec_lt}
 use lib.Dec.{eqb}
 use lib.ListN.{length, take, drop, take-append-drop}
 use lib.Seq.{length-take-le, take_all}
-use Rattle.words.specs.Choice.{if◌then◌else◌}
+use Rattle.std.specs.Prelude.{if◌then◌else◌}
 use Rattle.record.specs.Answer.{output_short, impossible_length}
 use Rattle.record.specs.Reader.{front}
 use Rattle.record.proofs.Cases.{by_case}

@@ -8,7 +8,7 @@ use lib.Dec.{eqb}
 use lib.ListN.{length, take, drop}
 use Rattle.words.specs.Word.{Bytes}
 use Rattle.words.specs.Laws.{bytes_take, bytes_drop, bytes_append}
-use Rattle.words.specs.Choice.{if◌then◌else◌}
+use Rattle.std.specs.Prelude.{if◌then◌else◌}
 use Rattle.record.specs.Reader.{front}
 use Rattle.record.proofs.Cases.{by_case}
 use Rattle.record_log.specs.Log.{past_at}

@@ -9,7 +9,7 @@ use borrow.Author.Tests.{lt-ltb, le-ltb, eq-eqb, ne_eqb}
 use lib.Dec.{ltb, eqb}
 use lib.ListN.{length, get_or, take, get_or-append}
 use lib.Seq.{length-take-le, get_or-take, get_or-append-add}
-use Rattle.words.specs.Choice.{if◌then◌else◌}
+use Rattle.std.specs.Prelude.{if◌then◌else◌}
 use Rattle.words.specs.Word.{word}
 use Rattle.words.specs.Laws.{word_same}
 use Rattle.record_log.specs.Log.{length_at, past_at, impossible}

@@ -1,7 +1,7 @@
 -- Feeding a log in parts: what a call does (R47), and what may be carried from one part to the next (R48).
 -- Assumes nothing: these are definitions.
 use Rattle.std.specs.Prelude.{ℕ, ◌+◌, ◌-◌, ◌≡◌, Bool, not, ◌&&◌, ◌||◌, List, ◌++◌, ltb, eqb, length, take}
-use Rattle.words.specs.Choice.{if◌then◌else◌}
+use Rattle.std.specs.Prelude.{if◌then◌else◌}
 use Rattle.record.specs.declared.answer.Answer.{Answer}
 use Rattle.record.specs.Answer.{unfit_pool, output_short, torn_log, impossible_length}
 use Rattle.record.specs.Reader.{front}

@@ -1,7 +1,7 @@
 -- What the steps of `feed` promise.
 -- Assumes nothing: these are definitions.
 use Rattle.std.specs.Prelude.{ℕ, ◌+◌, ◌-◌, ◌≤◌, ◌≡◌, Bool, not, List, ltb, eqb, length, take}
-use Rattle.words.specs.Choice.{if◌then◌else◌}
+use Rattle.std.specs.Prelude.{if◌then◌else◌}
 use Rattle.record.specs.Answer.{impossible_length}
 use Rattle.record.specs.Reader.{front}
 use Rattle.record_log.specs.Log.{length_at, past_at, impossible}

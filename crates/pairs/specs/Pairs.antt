@@ -2,7 +2,7 @@
 -- cites these: what the entry promises is said by the writer's own definitions, of the pairs themselves.
 -- Assumes nothing: these are definitions.
 use Rattle.std.specs.Prelude.{ℕ, zero, suc, List, [], ◌∷◌, map, ltb, take, set, replicate}
-use Rattle.words.specs.Choice.{if◌then◌else◌}
+use Rattle.std.specs.Prelude.{if◌then◌else◌}
 use Rattle.record.specs.declared.point.Scan.{Scan}
 use Rattle.record.specs.Answer.{malformed}
 use Rattle.record.specs.Reader.{lists, low_of, high_of}

@@ -8,7 +8,7 @@ use mathlib.Core.List.{List, Memᴰ as Mem}
 use mathlib.Core.Option.{Option, none, some}
 use lib.ListN.{length}
 use Rattle.words.specs.Word.{Bytes}
-use Rattle.words.specs.Choice.{if◌then◌else◌}
+use Rattle.std.specs.Prelude.{if◌then◌else◌}
 use Rattle.nodes.specs.declared.node.Node.{Node}
 use Rattle.nodes.specs.Nodes.{base, node_at, put_node, inner_node}
 use Rattle.nodes.specs.Mended.{mended}

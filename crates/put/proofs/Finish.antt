@@ -11,7 +11,7 @@ use Rattle.words.specs.Word.{Bytes}
 use Rattle.nodes.specs.declared.header.Header.{Header}
 use Rattle.nodes.specs.Nodes.{base, header_at, put_header}
 use Rattle.nodes.specs.Laws.{NodeFits}
-use Rattle.words.specs.Choice.{if◌then◌else◌}
+use Rattle.std.specs.Prelude.{if◌then◌else◌}
 use Rattle.rules.specs.State.{Entry, Fits, last_position}
 use Rattle.pool.specs.Plan.{Plan, numbers, leaf_node}
 use Rattle.pool.specs.Image.{Arrangement, Arranged, Image, Holds, HoldsTree, HoldsFree, first_of, header_of, state_of, root_or}

@@ -11,7 +11,7 @@ use Rattle.bits.proofs.Part.{part_most}
 use Rattle.nodes.specs.declared.node.Node.{Node}
 use Rattle.nodes.specs.Nodes.{inner_node}
 use Rattle.nodes.specs.Laws.{NodeFits}
-use Rattle.words.specs.Choice.{if◌then◌else◌}
+use Rattle.std.specs.Prelude.{if◌then◌else◌}
 use Rattle.rules.specs.State.{Entry, is_live}
 use Rattle.rules.specs.Tree.{newest, oldest, first, no_tombstone}
 use Rattle.pool.specs.Plan.{Plan, leaf, node, tree_in, number, root_node}

@@ -12,7 +12,7 @@ use lib.Pow.{pow_pos}
 use borrow.Author.Tests.{ltb-false}
 use Rattle.bits.specs.Bits.{part_height}
 use Rattle.bits.proofs.Part.{part_is}
-use Rattle.words.specs.Choice.{if◌then◌else◌}
+use Rattle.std.specs.Prelude.{if◌then◌else◌}
 use Rattle.rules.specs.State.{Entry}
 use Rattle.rules.specs.Tree as Trees
 use Rattle.rules.specs.Tree.{Tree, empty, first}

@@ -12,7 +12,7 @@ use borrow.Author.Tests.{eq-eqb}
 use Rattle.bits.specs.Bits.{part_height}
 use Rattle.nodes.specs.Nodes.{base, node_at, put_node}
 use Rattle.nodes.specs.Laws.{NodeFits, node_fits, node_put, node_apart, bytes_node, length_node}
-use Rattle.words.specs.Choice.{if◌then◌else◌}
+use Rattle.std.specs.Prelude.{if◌then◌else◌}
 use Rattle.rules.specs.State.{Entry}
 use Rattle.rules.specs.Tree.{first}
 use Rattle.pool.specs.Plan.{Plan, leaf, node, tree_in, number, numbers, root_node}

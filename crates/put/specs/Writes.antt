@@ -4,7 +4,7 @@ use Rattle.std.specs.Prelude.{ℕ, ◌*◌, ◌/◌, ◌^◌, max, min, List, lt
 use Rattle.bits.specs.Bits.{part_height}
 use Rattle.nodes.specs.declared.node.Node.{Node}
 use Rattle.nodes.specs.Nodes.{put_node, inner_node}
-use Rattle.words.specs.Choice.{if◌then◌else◌}
+use Rattle.std.specs.Prelude.{if◌then◌else◌}
 
 -- the inner node above a leaf, which is node b, and node i, which holds n
 abbrev pub fork_node : ℕ → Node → Node → ℕ → Node

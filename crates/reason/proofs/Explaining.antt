@@ -15,7 +15,7 @@ use Rattle.record.specs.declared.point.Scan.{Scan}
 use Rattle.record.specs.Answer as Numbers
 use Rattle.record.specs.Record.{Rec}
 use Rattle.record.specs.Reader.{high_of}
-use Rattle.words.specs.Choice.{if◌then◌else◌}
+use Rattle.std.specs.Prelude.{if◌then◌else◌}
 use Rattle.nodes.specs.declared.header.Header.{Header}
 use Rattle.nodes.specs.declared.node.Node.{Node}
 use Rattle.nodes.specs.Nodes.{header_at, node_at}

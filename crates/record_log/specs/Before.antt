@@ -2,7 +2,7 @@
 -- was 10 whatever it was, then 10 or 11 as today (R14).
 -- Assumes nothing: these are definitions.
 use Rattle.std.specs.Prelude.{ℕ, ◌+◌, ◌-◌, ◌≤◌, ◌≡◌, Bool, ◌||◌, List, [], ◌∷◌, length, take, drop, ltb}
-use Rattle.words.specs.Choice.{if◌then◌else◌}
+use Rattle.std.specs.Prelude.{if◌then◌else◌}
 use Rattle.record_log.specs.declared.found.Cut.{Cut}
 use Rattle.record_log.specs.declared.found.Cut.TheVariants.{End, Torn, Impossible, Record}
 use Rattle.record_log.specs.Log.{length_at, past_at, ends_at}

@@ -3,7 +3,8 @@
 use Rattle.std.specs.Prelude.{ℕ, ◌+◌, ◌-◌, ◌≤◌, ◌≡◌, Bool, ◌||◌, List, [], length, take, drop, ltb, eqb}
 use Rattle.std.proofs.Math.Option.{Option, none, some}
 use Rattle.std.specs.Borrow.{Bor}
-use Rattle.words.specs.Choice.{if◌then◌else◌, value_or}
+use Rattle.words.specs.Choice.{value_or}
+use Rattle.std.specs.Prelude.{if◌then◌else◌}
 use Rattle.words.specs.Word.{word}
 use Rattle.record.specs.declared.answer.Answer.{Answer}
 use Rattle.record.specs.Answer.{torn_log, impossible_length}

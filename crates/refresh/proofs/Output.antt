@@ -18,7 +18,7 @@ use Rattle.record.specs.Record.{Rec, bytes_of, Valid}
 use Rattle.record.specs.Parse.{parse}
 use Rattle.record.specs.Reader.{front}
 use Rattle.record.proofs.RoundTrip.{parse_bytes_of, bytes_of_parse}
-use Rattle.words.specs.Choice.{if◌then◌else◌}
+use Rattle.std.specs.Prelude.{if◌then◌else◌}
 use Rattle.rules.specs.State.{State, last_position}
 use Rattle.rules.specs.Refresh.{Refreshed, done, refused, refreshed_answer, with_snapshot, refresh, Refreshes}
 use Rattle.rules.proofs.Refreshing.{refresh_exactly, refreshed_valid}

@@ -7,7 +7,7 @@ use Rattle.record.specs.Answer.{committed, unfit_pool, output_short}
 use Rattle.record.specs.Record.{Rec, bytes_of}
 use Rattle.record.specs.Parse.{parse}
 use Rattle.record.specs.Reader.{front}
-use Rattle.words.specs.Choice.{if◌then◌else◌}
+use Rattle.std.specs.Prelude.{if◌then◌else◌}
 use Rattle.rules.specs.State.{State}
 use Rattle.rules.specs.Verdict.{verdict_answer}
 use Rattle.rules.specs.Refresh.{Refreshed, done, refused, refresh}

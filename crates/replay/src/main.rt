@@ -24,11 +24,18 @@ fn meld_into<R: Read, P: Print>(input: &mut R, out: &mut Output<P>, pool: &mut [
     meld_input(input, out, pool, MOST_KEYS)
 }
 
+// The same in a pool of its own size. It stands apart so that the list of so many bytes is known by its length alone.
+fn meld_in<R: Read, P: Print>(input: &mut R, out: &mut Output<P>, pool: &mut [u8; POOL]) -> Ending
+    ensures { ProgramRuns pool.old pool.new result }
+{
+    meld_into(input, out, pool)
+}
+
 fn main(rt: HostRuntime) -> io::Result<()> {
     let mut pool = [0u8; POOL];
     let mut input = rt.stdin();
     let mut out = Output::new(rt.stdout());
-    let ending = meld_into(&mut input, &mut out, &mut pool);
+    let ending = meld_in(&mut input, &mut out, &mut pool);
     print_closing(&mut out, ending);
     out.end()
 }

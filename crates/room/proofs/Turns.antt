@@ -10,7 +10,7 @@ use lib.ListN.{length, get_or, set, drop, length-set, drop_of_length-le}
 use lib.Seq.{drop-cons, drop-set-lt, sets, sets-eq}
 use lib.Dec.{eqb, leb}
 use borrow.Author.Tests.{le-leb, lt-leb, ne_eqb}
-use Rattle.words.specs.Choice.{if◌then◌else◌}
+use Rattle.std.specs.Prelude.{if◌then◌else◌}
 use Rattle.rules.specs.State.{Entry}
 use Rattle.pool.specs.Image.{Arrangement, Image, Fit, state_of}
 use Rattle.find.specs.declared.Found.{Found}

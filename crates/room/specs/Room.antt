@@ -6,7 +6,7 @@ use Rattle.record.specs.declared.answer.Answer.{Answer}
 use Rattle.record.specs.declared.point.Point.{Point}
 use Rattle.record.specs.Answer.{no_room}
 use Rattle.record.specs.Record.{Rec, Valid, kind_of, key_of}
-use Rattle.words.specs.Choice.{if◌then◌else◌}
+use Rattle.std.specs.Prelude.{if◌then◌else◌}
 use Rattle.rules.specs.State.{State, last_position}
 use Rattle.rules.specs.Verdict.{drops, count}
 use Rattle.pool.specs.Image.{Arrangement, Image, state_of}

@@ -1,7 +1,7 @@
 -- The keys that a record writes, counted by what is kept under them; and which of its deletes write.
 -- Assumes nothing: these are definitions.
 use Rattle.std.specs.Prelude.{ℕ, ◌+◌, ◌≡◌, List, [], ◌∷◌, leb, eqb}
-use Rattle.words.specs.Choice.{if◌then◌else◌}
+use Rattle.std.specs.Prelude.{if◌then◌else◌}
 use Rattle.rules.specs.State.{Entry}
 use Rattle.find.specs.declared.Found.{Found}
 use Rattle.find.specs.declared.Found.TheVariants.{Absent, Live, Tombstone}

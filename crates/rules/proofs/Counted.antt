@@ -16,7 +16,7 @@ use lib.Dec.{T, ltb, eqb, eqb→eq, T_not}
 use lib.ListN.{length, length-map}
 use Rattle.record.specs.Record.{Rec, Valid}
 use Rattle.record.specs.declared.point.Point.{Point}
-use Rattle.words.specs.Choice.{if◌then◌else◌}
+use Rattle.std.specs.Prelude.{if◌then◌else◌}
 use Rattle.rules.specs.Lists.{any, keep, distinct, NoneTwice, nil, cons}
 use Rattle.rules.specs.State.{Entry, State, key_in, Rising, end, link, Lawful}
 use Rattle.rules.specs.Footprint.{writes_of}

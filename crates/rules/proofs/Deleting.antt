@@ -18,7 +18,7 @@ use Rattle.record.specs.Record.{Rec}
 use Rattle.record.specs.declared.point.Point.{Point}
 use Rattle.record.specs.declared.point.Point.TheVariants.{Read, Put, Delete}
 use Rattle.record.specs.declared.point.Scan.{Scan}
-use Rattle.words.specs.Choice.{if◌then◌else◌}
+use Rattle.std.specs.Prelude.{if◌then◌else◌}
 use Rattle.rules.specs.Lists.{keep, distinct}
 use Rattle.rules.specs.State.{Entry, State, key_in, is_live, last_position, Lawful}
 use Rattle.rules.specs.EntryFits.{EntryFits}

@@ -9,7 +9,7 @@ use mathlib.Core.List.Memᴰ.{tail as there}
 use mathlib.Core.List.{List, [], ◌∷◌, ◌++◌, Memᴰ as Mem}
 use mathlib.Core.Option.{Option, none, some}
 use lib.Dec.{ltb, eqb, eqb→eq, ltb→lt, nltb→le, T_not}
-use Rattle.words.specs.Choice.{if◌then◌else◌}
+use Rattle.std.specs.Prelude.{if◌then◌else◌}
 use Rattle.rules.specs.State.{Entry, Rising, end, link}
 use Rattle.rules.specs.Verdict.{store, store_all}
 use Rattle.rules.specs.Lookup.{find}

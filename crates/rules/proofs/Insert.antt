@@ -10,7 +10,7 @@ use mathlib.Core.List.Memᴰ.{tail as there}
 use mathlib.Core.List.{List, [], ◌∷◌, ◌++◌, Memᴰ as Mem}
 use lib.Pow.{pow_pos}
 use lib.Dec.{T, ltb, leb, eqb, eqb→eq, ltb→lt, nltb→le, lt→ltb, le→leb, leb→le, T_not, not_T}
-use Rattle.words.specs.Choice.{if◌then◌else◌}
+use Rattle.std.specs.Prelude.{if◌then◌else◌}
 use Rattle.rules.specs.State.{Entry, Rising}
 use Rattle.rules.specs.Verdict.{store, store_all}
 use Rattle.rules.specs.Tree.{Tree, empty, leaf, node, entries, first, past, tree_of}

@@ -16,7 +16,7 @@ use mathlib.Core.Option.{some}
 use lib.Dec.{T, ltb, ltb→lt, lt→ltb, T_not}
 use Rattle.record.specs.Record.{Rec}
 use Rattle.record.specs.declared.point.Scan.{Scan}
-use Rattle.words.specs.Choice.{if◌then◌else◌}
+use Rattle.std.specs.Prelude.{if◌then◌else◌}
 use Rattle.rules.specs.Lists.{keep}
 use Rattle.rules.specs.State.{Entry, State}
 use Rattle.rules.specs.Footprint.{reach, meets}

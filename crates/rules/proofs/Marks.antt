@@ -15,7 +15,7 @@ use lib.Dec.{T, ltb, leb, ltb→lt, lt→ltb, le→leb, leb→le, not_T}
 use lib.ListN.{length, length-append, length-map}
 use Rattle.record.specs.Record.{Rec, key_of, Apart}
 use Rattle.record.specs.declared.point.Scan.{Scan}
-use Rattle.words.specs.Choice.{if◌then◌else◌}
+use Rattle.std.specs.Prelude.{if◌then◌else◌}
 use Rattle.rules.specs.Footprint.{named, reach, meets}
 use Rattle.rules.proofs.Tests.{if_ind, is_true, is_false, le_or_lt, and_of, right_of_lem, mem_map, of_map}
 use Rattle.rules.proofs.Reach.{meets_of, of_meets}

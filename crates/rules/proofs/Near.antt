@@ -7,7 +7,7 @@ use mathlib.Core.Bool.{Bool, true, false}
 use mathlib.Core.Option.{Option, some}
 use lib.Dec.{leb, le→leb}
 use Rattle.record.specs.Record.{Rec}
-use Rattle.words.specs.Choice.{if◌then◌else◌}
+use Rattle.std.specs.Prelude.{if◌then◌else◌}
 use Rattle.rules.specs.State.{State, last_position}
 use Rattle.rules.specs.Footprint.{reach}
 use Rattle.rules.specs.Verdict.{committed, conflict, positions_used_up, conflicts, refusal_or, no_room_or_committed, judge, verdict}

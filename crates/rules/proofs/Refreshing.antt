@@ -8,7 +8,7 @@ use mathlib.Core.Bool.{Bool, true, false, not}
 use mathlib.Core.Option.{Option, none, some}
 use lib.Dec.{T, ltb, nltb→le}
 use Rattle.record.specs.Record.{Rec, Valid}
-use Rattle.words.specs.Choice.{if◌then◌else◌}
+use Rattle.std.specs.Prelude.{if◌then◌else◌}
 use Rattle.rules.specs.State.{State, last_position}
 use Rattle.rules.specs.Verdict.{Verdict, committed, conflict, too_old, ahead, conflicts, refusal_or, no_room_or_committed, judge, verdict}
 use Rattle.rules.specs.Refresh.{with_snapshot, Refreshed, done, refused, refreshed_answer, on_zero, refresh, Refreshes}

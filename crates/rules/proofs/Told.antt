@@ -8,7 +8,7 @@ use mathlib.Core.Option.{Option, some}
 use mathlib.Core.List.{List, [], ◌∷◌, Memᴰ as Mem}
 use lib.Dec.{T, ltb, leb, eqb, eqb→eq}
 use borrow.Author.Tests.{ltb-false}
-use Rattle.words.specs.Choice.{if◌then◌else◌}
+use Rattle.std.specs.Prelude.{if◌then◌else◌}
 use Rattle.record.specs.Record.{Rec}
 use Rattle.rules.specs.State.{Entry, State, key_in, last_position}
 use Rattle.rules.specs.Footprint.{reach}

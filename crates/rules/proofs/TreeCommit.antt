@@ -6,7 +6,7 @@ use mathlib.Core.Path.{◌≡◌, sym}
 use mathlib.Core.Logic.{⊎_elim}
 use mathlib.Core.List.{List, Memᴰ as Mem}
 use Rattle.record.specs.Record.{Rec, Valid}
-use Rattle.words.specs.Choice.{if◌then◌else◌}
+use Rattle.std.specs.Prelude.{if◌then◌else◌}
 use Rattle.rules.specs.State.{Entry, State, Lawful}
 use Rattle.rules.specs.Footprint.{writes_of}
 use Rattle.rules.specs.Verdict.{young, drops, apply}

@@ -5,7 +5,7 @@ use Rattle.std.specs.Prelude.{ℕ, ◌+◌, Bool, List, ◌++◌, map, ltb, leb,
 use Rattle.std.proofs.Math.Option.{Option, none, some}
 use Rattle.record.specs.Record.{Rec}
 use Rattle.record.specs.declared.point.Point.{Point}
-use Rattle.words.specs.Choice.{if◌then◌else◌}
+use Rattle.std.specs.Prelude.{if◌then◌else◌}
 use Rattle.rules.specs.Lists.{keep, distinct}
 use Rattle.rules.specs.State.{Entry, State, key_in, last_position}
 use Rattle.rules.specs.Footprint.{reach, stored_at}

@@ -6,7 +6,7 @@ use Rattle.std.proofs.Math.Option.{Option, some}
 use Rattle.record.specs.Record.{Rec, Valid}
 use Rattle.record.specs.declared.point.Point.{Point}
 use Rattle.record.specs.declared.point.Scan.{Scan}
-use Rattle.words.specs.Choice.{if◌then◌else◌}
+use Rattle.std.specs.Prelude.{if◌then◌else◌}
 use Rattle.rules.specs.Lists.{any}
 use Rattle.rules.specs.State.{Entry, State, fresh}
 use Rattle.rules.specs.Footprint.{writes_of}

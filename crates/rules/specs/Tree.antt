@@ -4,7 +4,7 @@ use Rattle.std.specs.Prelude.{ℕ, zero, suc, ◌+◌, ◌^◌, ◌≤◌, max, 
 use Rattle.std.proofs.Math.Option.{Option, none, some}
 use Rattle.record.specs.Record.{Rec}
 use Rattle.record.specs.declared.point.Scan.{Scan}
-use Rattle.words.specs.Choice.{if◌then◌else◌}
+use Rattle.std.specs.Prelude.{if◌then◌else◌}
 use Rattle.rules.specs.Lists.{keep}
 use Rattle.rules.specs.State.{Entry, State, is_live}
 use Rattle.rules.specs.Footprint.{reach, meets}

@@ -7,7 +7,7 @@ use Rattle.record.specs.Answer as Names
 use Rattle.record.specs.declared.answer.Answer.{Answer}
 use Rattle.record.specs.declared.point.Point.{Point}
 use Rattle.record.specs.declared.point.Scan.{Scan}
-use Rattle.words.specs.Choice.{if◌then◌else◌}
+use Rattle.std.specs.Prelude.{if◌then◌else◌}
 use Rattle.rules.specs.Lists.{any, keep, distinct}
 use Rattle.rules.specs.State.{Entry, State, key_in, is_live, last_position}
 use Rattle.rules.specs.Footprint.{reach, meets, writes_of}

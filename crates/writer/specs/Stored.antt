@@ -1,7 +1,7 @@
 -- What the second pass over the lists stores, byte by byte. No public promise cites it: proofs show that it is the record's bytes.
 -- Assumes nothing: these are definitions.
 use Rattle.std.specs.Prelude.{ℕ, List, [], ◌∷◌, ◌++◌, eqb}
-use Rattle.words.specs.Choice.{if◌then◌else◌}
+use Rattle.std.specs.Prelude.{if◌then◌else◌}
 use Rattle.words.specs.Word.{big_endian}
 use Rattle.record.specs.Record.{count_width}
 

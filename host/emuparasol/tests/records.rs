@@ -5,13 +5,24 @@
 
 mod common;
 
-use common::raw::{read, room, write, Lists};
+use common::raw::{read, write, Lists};
 use common::{check, cut, full_buffer, same_record};
 use emuparasol::{Error, MOST_POINTS, MOST_RECORD, MOST_SCANS};
 use reference::lists::{self, ListsOut};
 use reference::random::Random;
 use reference::record::with_length;
 use reference::{Answer, LogReader, Point, Record, Scan, Step};
+
+/// Lists with something in them, for so many points and scans.
+fn room(points: usize, scans: usize) -> Lists {
+    Lists {
+        kinds: vec![9; points],
+        keys: vec![0xAAAA; points],
+        payloads: vec![0xBBBB; points],
+        lows: vec![0xCCCC; scans],
+        highs: vec![0xDDDD; scans],
+    }
+}
 
 /// Checks and reads the bytes in both, and compares.
 fn read_both(bytes: &[u8], points: usize, scans: usize) -> u8 {

@@ -4,7 +4,7 @@
 
 mod common;
 
-use common::raw::{self, room, Lists};
+use common::raw::{self, Lists};
 use common::{
     check, explain_both, fresh, full_buffer, lookup_both, meld, meld_both, refresh_both,
     same_record,
@@ -117,6 +117,17 @@ fn lists(record: &Record) -> Lists {
         lists.payloads.push(payload);
     }
     lists
+}
+
+/// Lists of this length to be read into.
+fn room(points: usize, scans: usize) -> Lists {
+    Lists {
+        kinds: vec![9; points],
+        keys: vec![9; points],
+        payloads: vec![9; points],
+        lows: vec![9; scans],
+        highs: vec![9; scans],
+    }
 }
 
 #[test]

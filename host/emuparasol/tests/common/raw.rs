@@ -151,17 +151,6 @@ pub struct Lists {
     pub highs: Vec<u32>,
 }
 
-/// Lists with something in them, for so many points and scans.
-pub fn room(points: usize, scans: usize) -> Lists {
-    Lists {
-        kinds: vec![9; points],
-        keys: vec![0xAAAA; points],
-        payloads: vec![0xBBBB; points],
-        lows: vec![0xCCCC; scans],
-        highs: vec![0xDDDD; scans],
-    }
-}
-
 /// `read` into these lists: the answer, the snapshot, the points, the scans.
 pub fn read(record: &[u8], lists: &mut Lists) -> (u8, u32, usize, usize) {
     let mut named = bytes(record);
