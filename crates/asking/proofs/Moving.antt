@@ -17,9 +17,9 @@ pub moved_none : (past left : ℕ) (before : List ℕ) → Moved past left befor
 moved_none past left before = record { done = λ j h. absurd (omega arith); rest = λ j h. refl; as_long = refl; few = omega arith }
 
 -- one more
-pub moved_on_lem : (past left : ℕ) (before : List ℕ) (i : ℕ) (after : List ℕ) → Moved past left before i after → i < left → past + left ≤ length before
+pub moved_on : (past left : ℕ) (before : List ℕ) (i : ℕ) (after : List ℕ) → Moved past left before i after → i < left → past + left ≤ length before
     → Moved past left before (i + 1) (set after i (get_or after (past + i) 0))
-moved_on_lem past left before i after m more inside =
+moved_on past left before i after m more inside =
     record {
       done =
           λ j h.
