@@ -14,16 +14,15 @@ use Rattle.create.specs.Fresh.{Created}
 use Rattle.create.proofs.Only as Create
 use Rattle.refresh.specs.Refreshed.{RefreshIs}
 use Rattle.refresh.proofs.Only.{refresh_only}
-use Rattle.meld.specs.declared.kept.Status.{Status}
 use Rattle.meld.specs.declared.melding.Melded.{Melded}
 use Rattle.meld.specs.Melds.{Melds}
-use Rattle.meld.specs.Statuses.{StatusIs}
 use Rattle.meld.proofs.Only as Meld
 use Rattle.pages.proofs.Only as Pages
 use Rattle.reason.proofs.Only as Reason
+use Rattle.abi.specs.declared.numbers.StatusNumbers.{StatusNumbers}
 use Rattle.abi.specs.declared.numbers.LookupNumbers.{LookupNumbers}
-use Rattle.abi.specs.Numbers.{melded, looked_up, status_from, FedNumbers, fed_numbers, of_fed, fed_from, ExplainedNumbers, explained_numbers, of_explained}
-use Rattle.abi.specs.Told.{LooksUpAs, InForceAs, FeedsInNumbers, ExplainsInNumbers}
+use Rattle.abi.specs.Numbers.{melded, looked_up, status_from, of_status, FedNumbers, fed_numbers, of_fed, fed_from, ExplainedNumbers, explained_numbers, of_explained}
+use Rattle.abi.specs.Told.{StatusInNumbers, LooksUpAs, InForceAs, FeedsInNumbers, ExplainsInNumbers}
 
 -- `emuparasol_create`: one number, and one content of the pool
 pub only_create : (m : List ℕ) (n z r q : ℕ) (m' m'' : List ℕ) → Created m n z (answer r) m' → Created m n z (answer q) m'' → (r ≡ q) × (m' ≡ m'')
@@ -31,16 +30,17 @@ only_create m n z r q m' m'' a b = let x = Create.only m n z (answer r) (answer 
 
 -- `emuparasol_status`: one number and five others, for any bytes lent as pool
 pub only_status : (m : List ℕ) (n N Z p kept tombstones n' N' Z' p' kept' tombstones' : ℕ) → Bytes m
-    → StatusIs m (status_from n N Z p kept tombstones) → StatusIs m (status_from n' N' Z' p' kept' tombstones')
+    → StatusInNumbers m (status_from n N Z p kept tombstones) → StatusInNumbers m (status_from n' N' Z' p' kept' tombstones')
     → (n ≡ n') × (N ≡ N') × (Z ≡ Z') × (p ≡ p') × (kept ≡ kept') × (tombstones ≡ tombstones')
 only_status m n N Z p kept tombstones n' N' Z' p' kept' tombstones' lent a b =
-    let e = Meld.only_status m (status_from n N Z p kept tombstones) (status_from n' N' Z' p' kept' tombstones') lent a b in (
-      ap (λ (s : Status). s.answer.number) e,
-      ap (λ (s : Status). s.limit) e,
-      ap (λ (s : Status). s.zone) e,
-      ap (λ (s : Status). s.position) e,
-      ap (λ (s : Status). s.kept) e,
-      ap (λ (s : Status). s.tombstones) e,
+    let e : status_from n N Z p kept tombstones ≡ status_from n' N' Z' p' kept' tombstones' =
+    a.told ∙ ap of_status (Meld.only_status m a.said b.said lent a.status b.status) ∙ sym b.told in (
+      ap (λ (s : StatusNumbers). s.number) e,
+      ap (λ (s : StatusNumbers). s.limit) e,
+      ap (λ (s : StatusNumbers). s.zone) e,
+      ap (λ (s : StatusNumbers). s.position) e,
+      ap (λ (s : StatusNumbers). s.kept) e,
+      ap (λ (s : StatusNumbers). s.tombstones) e,
     )
 
 -- `emuparasol_lookup`: one number, payload and position, for any bytes lent as pool

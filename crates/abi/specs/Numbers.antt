@@ -1,6 +1,7 @@
 -- The pool's answers and results, put together from the plain numbers that C is given. Those of the record part stand in `record_abi`.
 -- Assumes nothing: these are definitions.
-use Rattle.std.specs.Prelude.{ℕ, eqb}
+use Rattle.std.specs.Prelude.{ℕ, eqb, Result, Ok, Err}
+use Rattle.record.specs.declared.answer.Answer.{Answer}
 use Rattle.words.specs.Choice.{value_or}
 use Rattle.std.specs.Prelude.{if◌then◌else◌}
 use Rattle.record_abi.specs.Numbers.{answer, number_in}
@@ -15,6 +16,7 @@ use Rattle.reason.specs.declared.told.Touch.{Touch}
 use Rattle.reason.specs.declared.told.Reason.{Reason}
 use Rattle.reason.specs.declared.told.Explained.{Explained}
 use Rattle.reason.specs.Reason.{ReasonTold, reason_told, point_in, scan_in}
+use Rattle.abi.specs.declared.numbers.StatusNumbers.{StatusNumbers}
 use Rattle.abi.specs.declared.numbers.LookupNumbers.{LookupNumbers}
 use Rattle.abi.specs.declared.numbers.HappenedNumbers.{HappenedNumbers}
 use Rattle.abi.specs.declared.numbers.TouchNumbers.{TouchNumbers}
@@ -24,9 +26,14 @@ use Rattle.abi.specs.declared.numbers.ReasonNumbers.{ReasonNumbers}
 abbrev pub melded : ℕ → ℕ → Melded
 melded n looks = record { answer = answer n; looks = looks }
 
--- what status gives back, from the number and the five others
-abbrev pub status_from : ℕ → ℕ → ℕ → ℕ → ℕ → ℕ → Status
-status_from n N Z p kept tombstones = record { answer = answer n; limit = N; zone = Z; position = p; kept = kept; tombstones = tombstones }
+-- the six numbers of a status: the answer's and the five others
+abbrev pub status_from : ℕ → ℕ → ℕ → ℕ → ℕ → ℕ → StatusNumbers
+status_from n N Z p kept tombstones = record { number = n; limit = N; zone = Z; position = p; kept = kept; tombstones = tombstones }
+
+-- so 0 with what is told, and a refusal's number with five times 0 (R45)
+abbrev pub of_status : Result Status Answer → StatusNumbers
+of_status (Ok s) = status_from 0 s.limit s.zone s.position s.kept s.tombstones
+of_status (Err a) = status_from a.number 0 0 0 0 0
 
 -- the three numbers of a lookup
 abbrev pub looked_up : ℕ → ℕ → ℕ → LookupNumbers

@@ -1,7 +1,8 @@
 -- What the exported functions promise whose answers are no plain numbers in the library, a lookup, the record in force, feed and explain; and what
 -- the numbers of a lookup and of a reason say of the case behind them.
 -- Assumes nothing: these are definitions.
-use Rattle.std.specs.Prelude.{ℕ, ◌-◌, ◌≤◌, ◌≡◌, Bool, true, false, List, length}
+use Rattle.std.specs.Prelude.{ℕ, ◌-◌, ◌≤◌, ◌≡◌, Bool, true, false, List, length, Result}
+use Rattle.record.specs.declared.answer.Answer.{Answer}
 use Rattle.std.proofs.Math.Option.{none, some}
 use Rattle.record.specs.Record.{Rec}
 use Rattle.record.specs.Parse.{parse}
@@ -12,15 +13,24 @@ use Rattle.pool.specs.Image.{Arrangement, Image, Fit, state_of}
 use Rattle.record_abi.specs.Numbers.{answer}
 use Rattle.in_force.specs.InForce.{Source, original, refreshed, nothing, source_of, bytes_from}
 use Rattle.meld.specs.declared.kept.Lookup.TheVariants.{Unfit}
+use Rattle.meld.specs.declared.kept.Status.{Status}
+use Rattle.meld.specs.Statuses.{StatusIs}
 use Rattle.meld.specs.Lookups.{lookup_of}
 use Rattle.meld.specs.Melds.{melded_of}
 use Rattle.pages.specs.Pages.{Feeds}
 use Rattle.reason.specs.declared.told.Touch.TheVariants.{Point, Scan}
 use Rattle.reason.specs.declared.told.Explained.{Explained}
 use Rattle.reason.specs.Reason.{Explains, Smallest, TouchedBy}
+use Rattle.abi.specs.declared.numbers.StatusNumbers.{StatusNumbers}
 use Rattle.abi.specs.declared.numbers.LookupNumbers.{LookupNumbers}
 use Rattle.abi.specs.declared.numbers.ReasonNumbers.{ReasonNumbers}
-use Rattle.abi.specs.Numbers.{of_lookup, FedNumbers, of_fed, fed_from, melded, reason_from, ExplainedNumbers, explained_numbers, of_explained}
+use Rattle.abi.specs.Numbers.{of_status, of_lookup, FedNumbers, of_fed, fed_from, melded, reason_from, ExplainedNumbers, explained_numbers, of_explained}
+
+-- R45, of the numbers: they are those of what status gives back
+pub record StatusInNumbers (m : List ℕ) (t : StatusNumbers) : Type 0 where
+  pub said : Result Status Answer
+  pub status : StatusIs m said
+  pub told : t ≡ of_status said
 
 -- for the state that the pool means, what the rules' lookup sees, as numbers; 7 where it means none
 pub record LooksUpAs (m : List ℕ) (k : ℕ) (t : LookupNumbers) : Type 0 where

@@ -4,34 +4,26 @@
 // that is answered and every number and byte left behind are fixed. The last five need no pool; `record_abi` has them alone.
 mod numbers;
 
-ghost use Rattle.record.specs.Reader.{lists, ReadsAs};
-ghost use Rattle.writer.specs.Writer.{WritesAs};
-ghost use Rattle.joiner.specs.Joiner.{JoinsAs};
-ghost use Rattle.record_abi.specs.Numbers.{answer, reading, written, joined, found};
-ghost use Rattle.record_abi.specs.Told.{ChecksAs, CutsAs};
+ghost use Rattle.record.specs.Reader.{lists};
+ghost use Rattle.record_abi.specs.Numbers.{answer, reading, sized, found};
+ghost use Rattle.record_abi.specs.Told.{ChecksAs, ReadsInNumbers, WritesInNumbers, JoinsInNumbers, CutsAs};
 ghost use Rattle.create.specs.Fresh.{Created};
 ghost use Rattle.refresh.specs.Refreshed.{RefreshIs};
 ghost use Rattle.meld.specs.Melds.{Melds};
-ghost use Rattle.meld.specs.Statuses.{StatusIs};
 ghost use Rattle.abi.specs.Numbers.{melded, looked_up, status_from, fed_numbers, explained_numbers};
-ghost use Rattle.abi.specs.Told.{LooksUpAs, InForceAs, FeedsInNumbers, ExplainsInNumbers};
+ghost use Rattle.abi.specs.Told.{StatusInNumbers, LooksUpAs, InForceAs, FeedsInNumbers, ExplainsInNumbers};
 
-use joiner::join;
 use meld::{create, in_force, lookup, meld, refresh, status};
-use numbers::{of_happened, of_lookup, of_reason};
+use numbers::{HappenedNumbers, LookupNumbers, ReasonNumbers, StatusNumbers};
 use pages::feed;
 use reason::explain;
-use record::{Answer, check, read};
-use record_abi::numbers::of_cut;
-use record_log::cut;
-use writer::write;
+use record::Answer;
 
 // Creates a pool with limits n and z in the bytes lent: 0, or 9 and no byte changes.
 pub fn emuparasol_create(pool: &mut [u8], n: u32, z: u32) -> u8
     ensures { Created pool.old n z (answer result) pool.new }
 {
-    let answer = create(pool, n, z);
-    answer.number
+    create(pool, n, z).number
 }
 
 // What a pool says of itself: 7 for an unfit pool, else 0; its limits, its position, how many keys it keeps and how many of these are tombstones,
@@ -44,24 +36,23 @@ pub fn emuparasol_status(
     kept: &mut u32,
     tombstones: &mut u32,
 ) -> u8
-    ensures { StatusIs pool.now
+    ensures { StatusInNumbers pool.now
         (status_from result n.new z.new position.new kept.new tombstones.new) }
 {
-    let status = status(pool);
+    let status = StatusNumbers::from(status(pool));
     *n = status.limit;
     *z = status.zone;
     *position = status.position;
     *kept = status.kept;
     *tombstones = status.tombstones;
-    let answer = status.answer;
-    answer.number
+    status.number
 }
 
 // What is kept under a key: 7 for an unfit pool, else 0; payload and position of the last committed write, both 0 where there is none.
 pub fn emuparasol_lookup(pool: &[u8], key: u32, payload: &mut u64, position: &mut u32) -> u8
     ensures { LooksUpAs pool.now key (looked_up result payload.new position.new) }
 {
-    let kept = of_lookup(lookup(pool, key));
+    let kept = LookupNumbers::from(lookup(pool, key));
     *payload = kept.payload;
     *position = kept.position;
     kept.number
@@ -73,8 +64,7 @@ pub fn emuparasol_meld(pool: &mut [u8], record: &[u8], looks: &mut u32) -> u8
 {
     let melded = meld(pool, record);
     *looks = melded.looks;
-    let answer = melded.answer;
-    answer.number
+    melded.answer.number
 }
 
 // Takes the next part of a log and decides one record at most, once its last byte is in. What happened is told by a number of its own; the answer's
@@ -96,8 +86,7 @@ pub fn emuparasol_feed(
     *carried = fed.carried;
     *looks = fed.looks;
     *taken = fed.taken;
-    let what = fed.happened;
-    let said = of_happened(what);
+    let said = HappenedNumbers::from(fed.happened);
     *happened = said.happened;
     said.number
 }
@@ -121,24 +110,21 @@ pub fn emuparasol_explain(
 {
     let explained = explain(pool, record);
     *looks = explained.looks;
-    let why = explained.reason;
-    let told = of_reason(why);
+    let told = ReasonNumbers::from(explained.reason);
     *key = told.key;
     *position = told.position;
     *point = told.point;
     *scan = told.scan;
     *lag = told.lag;
     *keys = told.keys;
-    let answer = explained.answer;
-    answer.number
+    explained.answer.number
 }
 
 // Puts the record with the pool's position as snapshot at the front of the output: 7, 4, 5, 2, 1, 8 or 0.
 pub fn emuparasol_refresh(pool: &[u8], original: &[u8], output: &mut [u8]) -> u8
     ensures { RefreshIs pool.now original.now output.old (answer result) output.new }
 {
-    let answer = refresh(pool, original, output);
-    answer.number
+    refresh(pool, original, output).number
 }
 
 // Where the record in force lies after a refresh's answer: true in `refreshed`, false in `original`, from the offset on and so long.
@@ -155,18 +141,14 @@ pub fn emuparasol_in_force<'a>(
     let size = part.len();
     *offset = 0;
     *length = size;
-    if answer != Answer::COMMITTED.number {
-        return false;
-    }
-    0 < size
+    answer == Answer::COMMITTED.number && 0 < size
 }
 
 // 0 where the bytes lent are exactly one well-formed record, else 4.
 pub fn emuparasol_check(record: &[u8]) -> u8
     ensures { ChecksAs «record».now result }
 {
-    let answer = check(record);
-    answer.number
+    record_abi::emuparasol_check(record)
 }
 
 // Reads a record into the fronts of the lists: 4, 8 or 0, with the snapshot and both counts, all three 0 on a refusal.
@@ -181,17 +163,14 @@ pub fn emuparasol_read(
     points: &mut usize,
     scans: &mut usize,
 ) -> u8
-    ensures { ReadsAs «record».now
+    ensures { ReadsInNumbers «record».now
         (lists kinds.old keys.old payloads.old lows.old highs.old)
         (reading result snapshot.new points.new scans.new)
         (lists kinds.new keys.new payloads.new lows.new highs.new) }
 {
-    let reading = read(record, kinds, keys, payloads, lows, highs);
-    *snapshot = reading.snapshot;
-    *points = reading.points;
-    *scans = reading.scans;
-    let answer = reading.answer;
-    answer.number
+    record_abi::emuparasol_read(
+        record, kinds, keys, payloads, lows, highs, snapshot, points, scans,
+    )
 }
 
 // Writes the record that the lists name to the front of the output: 4, 8 or 0, with its size, 0 on a refusal.
@@ -205,24 +184,18 @@ pub fn emuparasol_write(
     output: &mut [u8],
     size: &mut usize,
 ) -> u8
-    ensures { WritesAs snapshot
+    ensures { WritesInNumbers snapshot
         (lists kinds.now keys.now payloads.now lows.now highs.now)
-        output.old (written result size.new) output.new }
+        output.old (sized result size.new) output.new }
 {
-    let written = write(snapshot, kinds, keys, payloads, lows, highs, output);
-    *size = written.size;
-    let answer = written.answer;
-    answer.number
+    record_abi::emuparasol_write(snapshot, kinds, keys, payloads, lows, highs, output, size)
 }
 
 // Joins two records, meant for one position and the next, into one at the front of the output: 12, 8 or 0, with its size, 0 on a refusal.
 pub fn emuparasol_join(a: &[u8], b: &[u8], output: &mut [u8], size: &mut usize) -> u8
-    ensures { JoinsAs a.now b.now output.old (joined result size.new) output.new }
+    ensures { JoinsInNumbers a.now b.now output.old (sized result size.new) output.new }
 {
-    let joined = join(a, b, output);
-    *size = joined.size;
-    let answer = joined.answer;
-    answer.number
+    record_abi::emuparasol_join(a, b, output, size)
 }
 
 // What stands at a place of a log: 10 for a torn log and 11 for an impossible length, both with the same place; else 0, with the place past the
@@ -230,7 +203,5 @@ pub fn emuparasol_join(a: &[u8], b: &[u8], output: &mut [u8], size: &mut usize) 
 pub fn emuparasol_cut(log: &[u8], place: usize, next: &mut usize) -> u8
     ensures { CutsAs log.now place (found result next.new) }
 {
-    let found = of_cut(cut(log, place), place);
-    *next = found.next;
-    found.number
+    record_abi::emuparasol_cut(log, place, next)
 }

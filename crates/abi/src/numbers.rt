@@ -1,14 +1,48 @@
-// What a lookup answers, what a call of feed has done, and the reason of an answer, as plain numbers.
+// What a pool says of itself, what a lookup answers, what a call of feed has done, and the reason of an answer, as plain numbers.
 ghost use Rattle.std.specs.Prelude.{◌≡◌};
-ghost use Rattle.abi.specs.Numbers.{of_lookup, of_happened, of_touch, of_reason};
+ghost use Rattle.abi.specs.Numbers.{of_status, of_lookup, of_happened, of_touch, of_reason};
 
-use meld::Lookup;
+use meld::{Lookup, Status};
 use pages::Happened;
 use reason::{Reason, Touch};
 use record::Answer;
+use record_abi::numbers::NO_NUMBER;
 
-// The number of a case to which the rules give none.
-const NO_NUMBER: u8 = 0;
+// What a pool says of itself: the answer's number, and five more, all of them 0 with 7.
+#[derive(Clone, Copy)]
+pub struct StatusNumbers {
+    pub number: u8,
+    pub limit: u32,
+    pub zone: u32,
+    pub position: u32,
+    pub kept: u32,
+    pub tombstones: u32,
+}
+
+impl From<Result<Status, Answer>> for StatusNumbers {
+    ghost from_gives = { λ told numbers. numbers ≡ of_status told };
+
+    fn from(told: Result<Status, Answer>) -> StatusNumbers {
+        match told {
+            Ok(status) => StatusNumbers {
+                number: Answer::COMMITTED.number,
+                limit: status.limit,
+                zone: status.zone,
+                position: status.position,
+                kept: status.kept,
+                tombstones: status.tombstones,
+            },
+            Err(answer) => StatusNumbers {
+                number: answer.number,
+                limit: 0,
+                zone: 0,
+                position: 0,
+                kept: 0,
+                tombstones: 0,
+            },
+        }
+    }
+}
 
 // A lookup's answer: its number, and payload and position of what was found, both 0 otherwise.
 #[derive(Clone, Copy)]
@@ -18,30 +52,31 @@ pub struct LookupNumbers {
     pub position: u32,
 }
 
-// A lookup's answer as numbers.
-pub fn of_lookup(kept: Lookup) -> LookupNumbers
-    ensures { result ≡ of_lookup kept }
-{
-    match kept {
-        Lookup::Unfit => LookupNumbers {
-            number: Answer::UNFIT_POOL.number,
-            payload: 0,
-            position: 0,
-        },
-        Lookup::Absent => LookupNumbers {
-            number: NO_NUMBER,
-            payload: 0,
-            position: 0,
-        },
-        Lookup::Found { payload, position } => LookupNumbers {
-            number: NO_NUMBER,
-            payload,
-            position,
-        },
+impl From<Lookup> for LookupNumbers {
+    ghost from_gives = { λ kept numbers. numbers ≡ of_lookup kept };
+
+    fn from(kept: Lookup) -> LookupNumbers {
+        match kept {
+            Lookup::Unfit => LookupNumbers {
+                number: Answer::UNFIT_POOL.number,
+                payload: 0,
+                position: 0,
+            },
+            Lookup::Absent => LookupNumbers {
+                number: NO_NUMBER,
+                payload: 0,
+                position: 0,
+            },
+            Lookup::Found { payload, position } => LookupNumbers {
+                number: NO_NUMBER,
+                payload,
+                position,
+            },
+        }
     }
 }
 
-// What a call of `emuparasol_feed` has done, each number with its one name.
+// What a call of `emuparasol_feed` has done, each number with its one name: C is given numbers.
 pub const REFUSED: u8 = 0;
 
 pub const DECIDED: u8 = 1;
@@ -50,34 +85,35 @@ pub const MORE: u8 = 2;
 
 pub const END: u8 = 3;
 
-// What happened, and the answer's number beside it.
+// What happened, and the answer's number beside it: 0 where there is no answer.
 #[derive(Clone, Copy)]
 pub struct HappenedNumbers {
     pub happened: u8,
     pub number: u8,
 }
 
-// What happened as numbers: 0 where there is no answer.
-pub fn of_happened(what: Happened) -> HappenedNumbers
-    ensures { result ≡ of_happened what }
-{
-    match what {
-        Happened::Decided(answer) => HappenedNumbers {
-            happened: DECIDED,
-            number: answer.number,
-        },
-        Happened::Refused(answer) => HappenedNumbers {
-            happened: REFUSED,
-            number: answer.number,
-        },
-        Happened::More => HappenedNumbers {
-            happened: MORE,
-            number: NO_NUMBER,
-        },
-        Happened::End => HappenedNumbers {
-            happened: END,
-            number: NO_NUMBER,
-        },
+impl From<Happened> for HappenedNumbers {
+    ghost from_gives = { λ what numbers. numbers ≡ of_happened what };
+
+    fn from(what: Happened) -> HappenedNumbers {
+        match what {
+            Happened::Decided(answer) => HappenedNumbers {
+                happened: DECIDED,
+                number: answer.number,
+            },
+            Happened::Refused(answer) => HappenedNumbers {
+                happened: REFUSED,
+                number: answer.number,
+            },
+            Happened::More => HappenedNumbers {
+                happened: MORE,
+                number: NO_NUMBER,
+            },
+            Happened::End => HappenedNumbers {
+                happened: END,
+                number: NO_NUMBER,
+            },
+        }
     }
 }
 
@@ -88,19 +124,20 @@ pub struct TouchNumbers {
     pub scan: usize,
 }
 
-// What touches a key, as numbers.
-pub fn of_touch(touch: Touch) -> TouchNumbers
-    ensures { result ≡ of_touch touch }
-{
-    match touch {
-        Touch::Point(number) => TouchNumbers {
-            point: number,
-            scan: 0,
-        },
-        Touch::Scan(number) => TouchNumbers {
-            point: 0,
-            scan: number,
-        },
+impl From<Touch> for TouchNumbers {
+    ghost from_gives = { λ touch numbers. numbers ≡ of_touch touch };
+
+    fn from(touch: Touch) -> TouchNumbers {
+        match touch {
+            Touch::Point(number) => TouchNumbers {
+                point: number,
+                scan: 0,
+            },
+            Touch::Scan(number) => TouchNumbers {
+                point: 0,
+                scan: number,
+            },
+        }
     }
 }
 
@@ -115,49 +152,50 @@ pub struct ReasonNumbers {
     pub keys: u32,
 }
 
-// A reason as numbers.
-pub fn of_reason(why: Reason) -> ReasonNumbers
-    ensures { result ≡ of_reason why }
-{
-    match why {
-        Reason::Nothing => ReasonNumbers {
-            key: 0,
-            position: 0,
-            point: 0,
-            scan: 0,
-            lag: 0,
-            keys: 0,
-        },
-        Reason::Conflict {
-            key,
-            position,
-            touch,
-        } => {
-            let by = of_touch(touch);
-            ReasonNumbers {
-                key,
-                position,
-                point: by.point,
-                scan: by.scan,
+impl From<Reason> for ReasonNumbers {
+    ghost from_gives = { λ why numbers. numbers ≡ of_reason why };
+
+    fn from(why: Reason) -> ReasonNumbers {
+        match why {
+            Reason::Nothing => ReasonNumbers {
+                key: 0,
+                position: 0,
+                point: 0,
+                scan: 0,
                 lag: 0,
                 keys: 0,
+            },
+            Reason::Conflict {
+                key,
+                position,
+                touch,
+            } => {
+                let by = TouchNumbers::from(touch);
+                ReasonNumbers {
+                    key,
+                    position,
+                    point: by.point,
+                    scan: by.scan,
+                    lag: 0,
+                    keys: 0,
+                }
             }
+            Reason::TooOld { lag } => ReasonNumbers {
+                key: 0,
+                position: 0,
+                point: 0,
+                scan: 0,
+                lag,
+                keys: 0,
+            },
+            Reason::NoRoom { keys } => ReasonNumbers {
+                key: 0,
+                position: 0,
+                point: 0,
+                scan: 0,
+                lag: 0,
+                keys,
+            },
         }
-        Reason::TooOld { lag } => ReasonNumbers {
-            key: 0,
-            position: 0,
-            point: 0,
-            scan: 0,
-            lag,
-            keys: 0,
-        },
-        Reason::NoRoom { keys } => ReasonNumbers {
-            key: 0,
-            position: 0,
-            point: 0,
-            scan: 0,
-            lag: 0,
-            keys,
-        },
     }
 }

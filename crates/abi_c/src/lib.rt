@@ -2,17 +2,14 @@
 
 // FOR C AND RUST: the functions of `abi`, each under its own name in the archive, with the same promises. The last five need no pool; `record_abi_c`
 // exports them alone.
-ghost use Rattle.record.specs.Reader.{lists, ReadsAs};
-ghost use Rattle.writer.specs.Writer.{WritesAs};
-ghost use Rattle.joiner.specs.Joiner.{JoinsAs};
-ghost use Rattle.record_abi.specs.Numbers.{answer, reading, written, joined, found};
-ghost use Rattle.record_abi.specs.Told.{ChecksAs, CutsAs};
+ghost use Rattle.record.specs.Reader.{lists};
+ghost use Rattle.record_abi.specs.Numbers.{answer, reading, sized, found};
+ghost use Rattle.record_abi.specs.Told.{ChecksAs, ReadsInNumbers, WritesInNumbers, JoinsInNumbers, CutsAs};
 ghost use Rattle.create.specs.Fresh.{Created};
 ghost use Rattle.refresh.specs.Refreshed.{RefreshIs};
 ghost use Rattle.meld.specs.Melds.{Melds};
-ghost use Rattle.meld.specs.Statuses.{StatusIs};
 ghost use Rattle.abi.specs.Numbers.{melded, looked_up, status_from, fed_numbers, explained_numbers};
-ghost use Rattle.abi.specs.Told.{LooksUpAs, InForceAs, FeedsInNumbers, ExplainsInNumbers};
+ghost use Rattle.abi.specs.Told.{StatusInNumbers, LooksUpAs, InForceAs, FeedsInNumbers, ExplainsInNumbers};
 
 // Creates a pool with limits n and z in the bytes lent: 0, or 9 and no byte changes.
 #[unsafe(no_mangle)]
@@ -33,7 +30,7 @@ pub extern "C" fn emuparasol_status(
     kept: &mut u32,
     tombstones: &mut u32,
 ) -> u8
-    ensures { StatusIs pool.now
+    ensures { StatusInNumbers pool.now
         (status_from result n.new z.new position.new kept.new tombstones.new) }
 {
     abi::emuparasol_status(pool, n, z, position, kept, tombstones)
@@ -143,7 +140,7 @@ pub extern "C" fn emuparasol_read(
     points: &mut usize,
     scans: &mut usize,
 ) -> u8
-    ensures { ReadsAs «record».now
+    ensures { ReadsInNumbers «record».now
         (lists kinds.old keys.old payloads.old lows.old highs.old)
         (reading result snapshot.new points.new scans.new)
         (lists kinds.new keys.new payloads.new lows.new highs.new) }
@@ -165,9 +162,9 @@ pub extern "C" fn emuparasol_write(
     output: &mut [u8],
     size: &mut usize,
 ) -> u8
-    ensures { WritesAs snapshot
+    ensures { WritesInNumbers snapshot
         (lists kinds.now keys.now payloads.now lows.now highs.now)
-        output.old (written result size.new) output.new }
+        output.old (sized result size.new) output.new }
 {
     abi::emuparasol_write(snapshot, kinds, keys, payloads, lows, highs, output, size)
 }
@@ -175,7 +172,7 @@ pub extern "C" fn emuparasol_write(
 // Joins two records, meant for one position and the next, into one at the front of the output: 12, 8 or 0, with its size, 0 on a refusal.
 #[unsafe(no_mangle)]
 pub extern "C" fn emuparasol_join(a: &[u8], b: &[u8], output: &mut [u8], size: &mut usize) -> u8
-    ensures { JoinsAs a.now b.now output.old (joined result size.new) output.new }
+    ensures { JoinsInNumbers a.now b.now output.old (sized result size.new) output.new }
 {
     abi::emuparasol_join(a, b, output, size)
 }

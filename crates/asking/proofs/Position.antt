@@ -2,7 +2,7 @@
 -- The idea: what the window holds is the rest of all that the reads have brought, from the place on that the card has come to; and a record cut out of a
 -- log stands there in every longer log.
 -- Assumes nothing.
-use Rattle.std.proofs.Common.{◌≡◌, ℕ, ◌+◌, ◌-◌, ◌≤◌, true, false, ◌⊎◌, List, [], ◌∷◌, ◌++◌, length, take, drop, sym, refl, ap, ◌∙◌, subst, inl, inr, ⊎_elim, true≢false, arith, length-append, length-drop, take-append-drop, length-take-le, take-take, drop-drop}
+use Rattle.std.proofs.Common.{◌≡◌, ℕ, ◌+◌, ◌-◌, ◌≤◌, true, ◌⊎◌, Result, Ok, Err, IsErr, List, [], ◌∷◌, ◌++◌, length, take, drop, sym, refl, ap, ◌∙◌, subst, inl, inr, ⊎_elim, true≢false, arith, length-append, length-drop, take-append-drop, length-take-le, take-take, drop-drop}
 use lib.Seq.{take-append-le, drop-append-le}
 use Rattle.words.specs.Laws.{word_drop}
 use Rattle.record.specs.Answer.{committed}
@@ -16,15 +16,17 @@ use Rattle.create.specs.Fresh.{Created}
 use Rattle.meld.specs.declared.melding.Melded.{Melded}
 use Rattle.meld.specs.Melds.{Melds}
 use Rattle.demands.specs.Runs.{ReadingOn, so_far, Card, is_over}
+use Rattle.demands.proofs.FedOn.{card_fit}
 use Rattle.demands.proofs.Reading.{cut_is, read_first, read_last}
 use Rattle.stream.proofs.Telling.{filled_front}
-use Rattle.asking.specs.declared.window.Seen.{Seen}
+use Rattle.asking.specs.declared.window.Front.{Front}
+use Rattle.asking.specs.declared.window.Stop.{Stop}
+use Rattle.asking.specs.declared.window.Stop.TheVariants as Stops
 use Rattle.asking.specs.declared.telling.Told.{Told}
 use Rattle.asking.specs.declared.telling.Told.TheVariants as Tolds
 use Rattle.asking.specs.Window.{Looked, Shifted}
 use Rattle.asking.specs.Told.{Tells}
 use Rattle.asking.specs.Seeking.{brought_by, Passed, ToldAt, Sought, log_in, is_record, ExplainedAt, OverAt}
-use Rattle.asking.proofs.Stepping.{seen_cut}
 
 -- WHAT STANDS AT A PLACE STANDS AT THE FRONT OF THE REST
 
@@ -85,11 +87,11 @@ record Rest (m brought : List ℕ) (records held : ℕ) (m' window : List ℕ) :
   pub fits : held ≤ length window
 
 -- after a look it holds what the reads brought besides
-rest_look : {m brought m' window filled : List ℕ} {records held : ℕ} {seen : Seen} → Rest m brought records held m' window → Looked held window filled seen
-    → Rest m (brought ++ brought_by held filled seen) records seen.held m' filled
-rest_look {brought = brought} {window = window} {filled = filled} {held = held} {seen = seen} r l =
+rest_look : {m brought m' window filled : List ℕ} {records held : ℕ} {seen : Result Front Stop} → Rest m brought records held m' window
+    → (l : Looked held window filled seen) → Rest m (brought ++ brought_by l) records l.held_now m' filled
+rest_look {brought = brought} {window = window} {filled = filled} {held = held} r l =
     let f = filled_front held window filled _ r.fits l.filled_up in
-    let more : List ℕ = brought_by held filled seen in
+    let more : List ℕ = brought_by l in
     record {
       answers = r.answers;
       place = r.place;
@@ -97,8 +99,8 @@ rest_look {brought = brought} {window = window} {filled = filled} {held = held} 
       count = r.count;
       rest =
           drop-append-le r.place brought more r.inside
-          ∙ ap (λ (s : List ℕ). s ++ more) (r.rest ∙ sym f.kept ∙ sym (take-take held seen.held filled f.least))
-          ∙ take-append-drop held (take seen.held filled);
+          ∙ ap (λ (s : List ℕ). s ++ more) (r.rest ∙ sym f.kept ∙ sym (take-take held l.held_now filled f.least))
+          ∙ take-append-drop held (take l.held_now filled);
       inside = omega (arith, r.inside, length-append brought more);
       fits = f.inside;
     }
@@ -136,10 +138,9 @@ module _ {m brought m' filled : List ℕ} {records held : ℕ} (r : Rest m broug
 passed_rest : {m window brought m' window' : List ℕ} {records held : ℕ} → Passed m window brought records held m' window' → Rest m brought records held m' window'
 passed_rest Passed.none_yet =
     record { answers = []; place = 0; read = so_far; count = refl; rest = refl; inside = omega arith; fits = omega arith }
-passed_rest (Passed.one_more {window' = window'} {held = held} t p) =
-    let r = passed_rest t in
-    let e : cut_at (take p.seen.held p.filled) 0 ≡ Record p.next = sym (seen_cut held window' p.filled p.seen r.fits p.looked) ∙ p.found in
-    rest_pass (rest_look r p.looked) p.next e p.melds p.shifted
+passed_rest (Passed.one_more {window'' = window''} {left = left} t p) =
+    rest_pass (rest_look (passed_rest t) p.looked) p.front.next (sym (cut_case _ 0 _ p.looked.shows.1)) p.melds
+    (subst (λ (held : ℕ). Shifted p.front.next held p.filled window'' left) p.looked.shows.0 p.shifted)
 
 -- THE THEOREMS
 
@@ -149,64 +150,55 @@ module _ {N Z : ℕ} {lent m : List ℕ} (made : Created lent N Z committed m) w
   card_at r = record { lent = lent; new = m; created = made; read = r.read }
 
   -- what is explained is the record that so many records of the log stand before, at the pool of a card that has melded these
-  pub record_explained : {before : ℕ} {window m' window' : List ℕ} {told : Told} (s : Sought before m window m' window' told) → is_record told ≡ true
+  pub record_explained : {before : ℕ} {window m' window' : List ℕ} {told : Told} (s : Sought before m window m' window' (Ok told)) → is_record told ≡ true
       → ExplainedAt N Z (log_in s) before m' told
-  record_explained {before} {window} {m'} {window'} {told} s is = by_told s.last.told_at is s.all_passed
+  record_explained {before} {window} {m'} {window'} {told} s is = by_seen s.last.seen s.last.looked s.last.told_at s.all_passed
     where
-      seen : Seen
-      seen = s.last.seen
-
-      now_held : Rest m (log_in s) s.records seen.held m' window'
-      now_held = rest_look (passed_rest s.passed) s.last.looked
-
-      cut : seen.found ≡ cut_at (take seen.held window') 0
-      cut = cut_case (take seen.held window') 0 seen.found s.last.looked.found
-
-      all : (next : ℕ) → seen.failed ≡ false → seen.found ≡ Record next → is_over seen.found ⊎ ((seen.failed ≡ true) ⊎ (s.records ≡ before)) → s.records ≡ before
-      all next f e (inl o) = absurd (subst is_over e o)
-      all next f e (inr (inl t)) = absurd (true≢false (sym t ∙ f))
-      all next f e (inr (inr q)) = q
-
-      by_told : {t : Told} → ToldAt s.records m' window' seen t → is_record t ≡ true → is_over seen.found ⊎ ((seen.failed ≡ true) ⊎ (s.records ≡ before))
-          → ExplainedAt N Z (log_in s) before m' t
-      by_told (ToldAt.unread f) i a = absurd (true≢false (sym i))
-      by_told (ToldAt.over f o) i a = absurd (true≢false (sym i))
-      by_told {t} (ToldAt.explained {next = next} f e d) i a =
-          let q : cut_at (take seen.held window') 0 ≡ Record next = sym cut ∙ e in
-          let place : ℕ = now_held.place in
+      by_seen : (seen : Result Front Stop) (l : Looked s.held s.between window' seen) → ToldAt s.records m' window' seen (Ok told) → IsErr seen ⊎ (s.records ≡ before)
+          → ExplainedAt N Z (s.brought ++ brought_by l) before m' told
+      by_seen (Ok front) l t (inl e) = absurd (true≢false (sym e))
+      by_seen (Ok front) l t (inr e) =
+          let r = rest_look (passed_rest s.passed) l in
+          let q : cut_at (take l.held_now window') 0 ≡ Record front.next = sym (cut_case _ 0 _ l.shows.1) in
           record {
-            pool = record { answers = now_held.answers; place = place; card = card_at now_held; count = now_held.count ∙ all next f e a };
-            next = place + next;
-            found = subst (CutIs (log_in s) place) (stands now_held next q) (cut_is (log_in s) place);
-            tells = subst (λ (b : List ℕ). Tells m' b t) (handed now_held next q) d;
+            pool = record { answers = r.answers; place = r.place; card = card_at r; count = r.count ∙ e };
+            next = r.place + front.next;
+            found = subst (CutIs (s.brought ++ brought_by l) r.place) (stands r front.next q) (cut_is (s.brought ++ brought_by l) r.place);
+            tells = subst (λ (b : List ℕ). Tells m' b told) (handed r front.next q) t.0;
           }
+      by_seen (Err Stops.Unread) l t a = cc
+      by_seen (Err (Stops.Over found)) l t a =
+          let e : told ≡ Tolds.Over found s.records = cc in
+          absurd (true≢false (sym is ∙ ap is_record e))
 
   -- where no record is told, the log was read to what stands behind its last record, and has so many
-  pub log_over : {before : ℕ} {window m' window' : List ℕ} {found : Cut} {records : ℕ} (s : Sought before m window m' window' (Tolds.Over found records))
+  pub log_over : {before : ℕ} {window m' window' : List ℕ} {found : Cut} {records : ℕ} (s : Sought before m window m' window' (Ok (Tolds.Over found records)))
       → OverAt N Z (log_in s) records found m'
-  log_over {before} {window} {m'} {window'} {found} {records} s = by_told s.last.told_at refl
+  log_over {before} {window} {m'} {window'} {found} {records} s = by_seen s.last.seen s.last.looked s.last.told_at
     where
-      seen : Seen
-      seen = s.last.seen
-
-      now_held : Rest m (log_in s) s.records seen.held m' window'
-      now_held = rest_look (passed_rest s.passed) s.last.looked
-
-      cut : seen.found ≡ cut_at (take seen.held window') 0
-      cut = cut_case (take seen.held window') 0 seen.found s.last.looked.found
-
-      by_told : {t : Told} → ToldAt s.records m' window' seen t → t ≡ Tolds.Over found records → OverAt N Z (log_in s) records found m'
-      by_told (ToldAt.unread f) e = let z : ◌≡◌ {A = ℕ} 0 1 = cc in absurd (omega arith)
-      by_told (ToldAt.over f o) e =
-          let same : seen.found ≡ found = cc in
-          let place : ℕ = now_held.place in
-          let at : cut_at (log_in s) place ≡ found =
-          over_behind (log_in s) place now_held.inside found (subst is_over same o) (ap (λ (x : List ℕ). cut_at x 0) now_held.rest ∙ sym cut ∙ same) in
+      by_seen : (seen : Result Front Stop) (l : Looked s.held s.between window' seen) → ToldAt s.records m' window' seen (Ok (Tolds.Over found records))
+          → OverAt N Z (s.brought ++ brought_by l) records found m'
+      by_seen (Ok front) l t = absurd t.0
+      by_seen (Err Stops.Unread) l t = cc
+      by_seen (Err (Stops.Over other)) l t =
+          let r = rest_look (passed_rest s.passed) l in
+          let log : List ℕ = s.brought ++ brought_by l in
+          let same : other ≡ found = cc in
+          let over : is_over found = subst is_over same l.shows.1 in
+          let at : cut_at log r.place ≡ found =
+          over_behind log r.place r.inside found over (ap (λ (x : List ℕ). cut_at x 0) r.rest ∙ sym (cut_case _ 0 _ l.shows.0) ∙ same) in
           let many : s.records ≡ records = cc in
           record {
-            answers = now_held.answers;
-            whole =
-                record { place = place; card = card_at now_held; found = subst (CutIs (log_in s) place) at (cut_is (log_in s) place); over = subst is_over same o };
-            count = now_held.count ∙ many;
+            answers = r.answers;
+            whole = record { place = r.place; card = card_at r; found = subst (CutIs log r.place) at (cut_is log r.place); over = over };
+            count = r.count ∙ many;
           }
-      by_told (ToldAt.explained f e (Rattle.asking.specs.Told.tells a b)) q = let z : ◌≡◌ {A = ℕ} 0 1 = cc in absurd (omega arith)
+
+  -- no pool is unfit there
+  pub never_unfit : {before : ℕ} {window m' window' : List ℕ} → Sought before m window m' window' (Ok Tolds.Unfit) → ⊥
+  never_unfit {before} {window} {m'} {window'} s = by_seen s.last.seen s.last.looked s.last.told_at
+    where
+      by_seen : (seen : Result Front Stop) → Looked s.held s.between window' seen → ToldAt s.records m' window' seen (Ok Tolds.Unfit) → ⊥
+      by_seen (Ok front) l t = t.0 (card_fit (card_at (passed_rest s.passed)))
+      by_seen (Err Stops.Unread) l t = cc
+      by_seen (Err (Stops.Over other)) l t = cc

@@ -1,14 +1,31 @@
 -- The window on a log: at its front are held the bytes from the log's place on (R52).
 -- Assumes nothing: these are definitions.
-use Rattle.std.specs.Prelude.{◌≡◌, ℕ, ◌-◌, List, length, take, drop}
+use Rattle.std.specs.Prelude.{◌≡◌, ℕ, ◌-◌, Bool, true, false, List, length, take, drop, Result, Ok, Err}
+use Rattle.record_log.specs.declared.found.Cut.TheVariants.{Record}
 use Rattle.record_log.specs.Log.{CutIs}
 use Rattle.stream.specs.Buffer.{FilledUp}
-use Rattle.asking.specs.declared.window.Seen.{Seen}
+use Rattle.demands.specs.Runs.{is_over}
+use Rattle.asking.specs.declared.window.Front.{Front}
+use Rattle.asking.specs.declared.window.Stop.{Stop}
+use Rattle.asking.specs.declared.window.Stop.TheVariants as Stops
 
--- the window filled up behind the bytes held, and what stands at its front (R14)
-pub record Looked (held : ℕ) (window filled : List ℕ) (r : Seen) : Type 0 where
-  pub filled_up : FilledUp held window filled (record { held = r.held; failed = r.failed })
-  pub found : CutIs (take r.held filled) 0 r.found
+-- a read failed
+abbrev pub is_unread : Result Front Stop → Bool
+is_unread (Ok front) = false
+is_unread (Err Stops.Unread) = true
+is_unread (Err (Stops.Over found)) = false
+
+-- what stands at the front of the bytes held, where no read failed: a record, or none (R14)
+abbrev pub Shows : (held : ℕ) (window : List ℕ) → Result Front Stop → Type 0
+Shows held window (Ok front) = (front.held ≡ held) × CutIs (take held window) 0 (Record front.next)
+Shows held window (Err Stops.Unread) = Unit {0}
+Shows held window (Err (Stops.Over found)) = CutIs (take held window) 0 found × is_over found
+
+-- the window filled up behind the bytes held, and what stands at its front then (R14)
+pub record Looked (held : ℕ) (window filled : List ℕ) (r : Result Front Stop) : Type 0 where
+  pub held_now : ℕ
+  pub filled_up : FilledUp held window filled (record { held = held_now; failed = is_unread r })
+  pub shows : Shows held_now filled r
 
 -- what was held behind the first bytes stands at the front, and is all that is held
 pub record Shifted (past held : ℕ) (window shifted : List ℕ) (left : ℕ) : Type 0 where

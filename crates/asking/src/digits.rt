@@ -1,49 +1,28 @@
-// The number that an argument gives in decimal digits.
+// The number that an argument gives in decimal digits. The `parse` of `u32` is no choice: it takes a `+` in front, and bytes need not be text.
 ghost use Rattle.std.specs.Prelude.{◌≡◌};
 ghost use Rattle.asking.specs.Decimal.{digit_of, number_of};
 
-// The number, or that the text is none: empty, a byte that is no digit, or above the last position.
-#[derive(Clone, Copy)]
-pub enum Number {
-    Nothing,
-    Is(u32),
-}
-
-// The last position (R2).
-const LAST: u64 = 4294967295;
-
-// The digit that a byte is; 10 for a byte that is none.
-fn digit(byte: u8) -> u64
+// The digit that a byte is, if it is one.
+fn digit(byte: u8) -> Option<u32>
     ensures { result ≡ digit_of byte }
 {
-    if byte < b'0' {
-        return 10;
+    match byte {
+        b'0'..=b'9' => Some(u32::from(byte - b'0')),
+        _ => None,
     }
-    if byte > b'9' {
-        return 10;
-    }
-    (byte - b'0') as u64
 }
 
-// The number that a text gives in decimal digits.
-pub fn decimal(text: &[u8]) -> Number
+// The number that a text gives in decimal digits; none if the text is empty, a byte is no digit, or the number is above the last position (R2).
+#[tactic(auto, using(crate::proofs::Decimals::too_large, crate::proofs::Decimals::all_read))]
+pub fn decimal(text: &[u8]) -> Option<u32>
     ensures { result ≡ number_of text.now }
 {
-    if text.len() == 0 {
-        return Number::Nothing;
+    if text.is_empty() {
+        return None;
     }
-    let mut value: u64 = 0;
-    let mut i: usize = 0;
-    while i < text.len() {
-        let digit = digit(text[i]);
-        if digit > 9 {
-            return Number::Nothing;
-        }
-        value = value * 10 + digit;
-        if value > LAST {
-            return Number::Nothing;
-        }
-        i += 1;
+    let mut value: u32 = 0;
+    for byte in text {
+        value = value.checked_mul(10)?.checked_add(digit(*byte)?)?;
     }
-    Number::Is(value as u32)
+    Some(value)
 }

@@ -1,300 +1,233 @@
 // What is wrong with bytes that are no well-formed record, and at which byte, for the words of answer 4.
-ghost use Rattle.std.specs.Prelude.{◌≡◌, ◌≤◌, true, length};
-ghost use Rattle.asking.specs.Flaws.{is_wrong, WrongAt, StepWithin, FlawIs};
+ghost use Rattle.std.specs.Prelude.{◌≤◌, length};
+ghost use Rattle.asking.specs.Flaws.{FlawIs};
 
 use record::limits::{MAX_POINTS, MAX_SCANS, SMALL_POINTS, SMALL_SCANS, VERSION_1, VERSION_2};
+use record::point::{DELETE, PUT, READ};
 use record::{Answer, check, version_for};
 use words::{word2, word4};
 
-// What is wrong.
+// What is wrong, with the number that stands there.
 #[derive(Clone, Copy)]
 pub enum Wrong {
-    // They are a well-formed record.
-    Nothing,
     // Fewer bytes than the smallest record has.
     Short,
     // The length is not that of the bytes.
-    Length,
+    Length(u32),
     // There is no such version.
-    Version,
+    Version(u8),
     // Version 2, and the bytes end within its two counts.
     Counts,
     // More points than version 1 has.
-    PointsIn1,
+    PointsIn1(u32),
     // More scans than version 1 has.
-    ScansIn1,
+    ScansIn1(u32),
     // Too many points.
-    Points,
+    Points(u32),
     // Too many scans.
-    Scans,
+    Scans(u32),
     // Version 2, with so few points and scans that they have version 1.
     Few,
     // There is no such kind.
-    Kind,
+    Kind(u8),
     // A point's key is not above the key before it.
-    Key,
+    Key(u32),
     // A scan's low is not above the high before it.
-    Low,
+    Low(u32),
     // A scan's high is below its low.
-    High,
+    High(u32),
     // The bytes end within a point or a scan.
     Torn,
     // Bytes are left behind the last scan.
     Rest,
 }
 
-// What is wrong, the byte where it stands, counted from 0, and the number that stands there.
+// What is wrong, and the byte where it stands, counted from 0.
 #[derive(Clone, Copy)]
 pub struct Flaw {
     pub wrong: Wrong,
     pub at: usize,
-    pub number: u32,
 }
 
-// Past one or more points or scans: where the next stands, and the least key that it may begin with; or what is wrong with one of them.
+// Where a point or a scan stands in a record's bytes, and the least key that it may begin with.
 #[derive(Clone, Copy)]
-pub enum Stepped {
-    Wrong(Flaw),
-    On { at: usize, least: u64 },
+struct Place<'a> {
+    bytes: &'a [u8],
+    at: usize,
+    least: u64,
+    ghost within: { at ≤ length bytes.now },
 }
 
-// A byte as a number.
-fn wide(byte: u8) -> u32 {
-    byte as u32
-}
-
-// What is wrong with a point or a scan.
-fn is_wrong(wrong: Wrong, at: usize, number: u32) -> Stepped
-    requires { is_wrong wrong ≡ true }
-    ensures { WrongAt result }
-{
-    Stepped::Wrong(Flaw { wrong, at, number })
-}
-
-// Past the point at a place.
-fn past_point(bytes: &[u8], at: usize, least: u64) -> Stepped
-    requires { at ≤ length bytes.now }
-    ensures { StepWithin (length bytes.now) result }
-{
-    let left = bytes.len() - at;
-    if left < 5 {
-        return is_wrong(Wrong::Torn, at, 0);
-    }
-    let kind = bytes[at];
-    if kind == 0 {
-        return is_wrong(Wrong::Kind, at, 0);
-    }
-    if kind > 3 {
-        return is_wrong(Wrong::Kind, at, wide(kind));
-    }
-    let key = word4(bytes, at + 1);
-    if (key as u64) < least {
-        return is_wrong(Wrong::Key, at + 1, key);
-    }
-    if kind != 2 {
-        return Stepped::On {
-            at: at + 5,
-            least: key as u64 + 1,
-        };
-    }
-    if left < 13 {
-        return is_wrong(Wrong::Torn, at, 0);
-    }
-    Stepped::On {
-        at: at + 13,
-        least: key as u64 + 1,
-    }
-}
-
-// Past the scan at a place.
-fn past_scan(bytes: &[u8], at: usize, least: u64) -> Stepped
-    requires { at ≤ length bytes.now }
-    ensures { StepWithin (length bytes.now) result }
-{
-    if bytes.len() - at < 8 {
-        return is_wrong(Wrong::Torn, at, 0);
-    }
-    let low = word4(bytes, at);
-    if (low as u64) < least {
-        return is_wrong(Wrong::Low, at, low);
-    }
-    let high = word4(bytes, at + 4);
-    if high < low {
-        return is_wrong(Wrong::High, at + 4, high);
-    }
-    Stepped::On {
-        at: at + 8,
-        least: high as u64 + 1,
-    }
-}
-
-// Past so many points.
-fn past_points(bytes: &[u8], start: usize, count: usize) -> Stepped
-    requires { start ≤ length bytes.now }
-    ensures { StepWithin (length bytes.now) result }
-{
-    let mut at = start;
-    let mut least: u64 = 0;
-    let mut left = count;
-    while 0 < left {
-        let step = past_point(bytes, at, least);
-        let Stepped::On {
-            at: next,
-            least: above,
-        } = step
-        else {
-            return step;
-        };
-        at = next;
-        least = above;
-        left -= 1;
-    }
-    Stepped::On { at, least }
-}
-
-// Past so many scans.
-fn past_scans(bytes: &[u8], start: usize, count: usize) -> Stepped
-    requires { start ≤ length bytes.now }
-    ensures { StepWithin (length bytes.now) result }
-{
-    let mut at = start;
-    let mut least: u64 = 0;
-    let mut left = count;
-    while 0 < left {
-        let step = past_scan(bytes, at, least);
-        let Stepped::On {
-            at: next,
-            least: above,
-        } = step
-        else {
-            return step;
-        };
-        at = next;
-        least = above;
-        left -= 1;
-    }
-    Stepped::On { at, least }
-}
-
-// What is wrong with the points and scans that start at a place: with the points, then with the scans, then what is behind them.
-fn behind_head(bytes: &[u8], start: usize, points: usize, scans: usize) -> Flaw
-    requires { start ≤ length bytes.now }
-    ensures { is_wrong result.wrong ≡ true }
-{
-    let step = past_points(bytes, start, points);
-    match step {
-        Stepped::Wrong(flaw) => flaw,
-        Stepped::On { at, least: _ } => {
-            let step = past_scans(bytes, at, scans);
-            match step {
-                Stepped::Wrong(flaw) => flaw,
-                Stepped::On { at: end, least: _ } => Flaw {
-                    wrong: Wrong::Rest,
-                    at: end,
-                    number: 0,
-                },
-            }
+impl<'a> Place<'a> {
+    // Past the point there.
+    fn past_point(self) -> Result<Place<'a>, Flaw> {
+        let Place { bytes, at, least } = self;
+        let left = bytes.len() - at;
+        if left < 5 {
+            return Err(Flaw {
+                wrong: Wrong::Torn,
+                at,
+            });
         }
+        let kind = bytes[at];
+        let size = match kind {
+            READ | DELETE => 5,
+            PUT => 13,
+            _ => return Err(Flaw {
+                wrong: Wrong::Kind(kind),
+                at,
+            }),
+        };
+        let key = word4(bytes, at + 1);
+        if u64::from(key) < least {
+            return Err(Flaw {
+                wrong: Wrong::Key(key),
+                at: at + 1,
+            });
+        }
+        if left < size {
+            return Err(Flaw {
+                wrong: Wrong::Torn,
+                at,
+            });
+        }
+        Ok(Place {
+            bytes,
+            at: at + size,
+            least: u64::from(key) + 1,
+        })
+    }
+
+    // Past the scan there.
+    fn past_scan(self) -> Result<Place<'a>, Flaw> {
+        let Place { bytes, at, least } = self;
+        if bytes.len() - at < 8 {
+            return Err(Flaw {
+                wrong: Wrong::Torn,
+                at,
+            });
+        }
+        let low = word4(bytes, at);
+        if u64::from(low) < least {
+            return Err(Flaw {
+                wrong: Wrong::Low(low),
+                at,
+            });
+        }
+        let high = word4(bytes, at + 4);
+        if high < low {
+            return Err(Flaw {
+                wrong: Wrong::High(high),
+                at: at + 4,
+            });
+        }
+        Ok(Place {
+            bytes,
+            at: at + 8,
+            least: u64::from(high) + 1,
+        })
     }
 }
 
-// What is wrong with a record of version 1: with its counts, or behind them.
-fn in_version_1(bytes: &[u8]) -> Flaw
-    requires { 9 ≤ length bytes.now }
-    ensures { is_wrong result.wrong ≡ true }
+// Past so many points and scans from a place on: where the bytes behind the last begin.
+fn past_all(bytes: &[u8], start: usize, points: usize, scans: usize) -> Result<usize, Flaw>
+    requires { start ≤ length bytes.now }
 {
-    let points = wide(bytes[7]);
-    if SMALL_POINTS < points as usize {
-        return Flaw {
-            wrong: Wrong::PointsIn1,
-            at: 7,
-            number: points,
-        };
-    }
-    let scans = wide(bytes[8]);
-    if SMALL_SCANS < scans as usize {
-        return Flaw {
-            wrong: Wrong::ScansIn1,
-            at: 8,
-            number: scans,
-        };
-    }
-    behind_head(bytes, 9, points as usize, scans as usize)
+    let first = Place {
+        bytes,
+        at: start,
+        least: 0,
+    };
+    let Place { bytes, at, .. } = (0..points).try_fold(first, |place, _| place.past_point())?;
+    let first = Place {
+        bytes,
+        at,
+        least: 0,
+    };
+    let end = (0..scans).try_fold(first, |place, _| place.past_scan())?;
+    Ok(end.at)
 }
 
-// What is wrong with a record of version 2: with its counts, or behind them.
-fn in_version_2(bytes: &[u8]) -> Flaw
+// A count that is no larger than it may be.
+fn count_up_to(most: usize, count: u32, wrong: Wrong, at: usize) -> Result<usize, Flaw> {
+    let held = count as usize;
+    if most < held {
+        return Err(Flaw { wrong, at });
+    }
+    Ok(held)
+}
+
+// The end of a record of version 1: past its counts, and the points and scans behind them.
+fn end_in_version_1(bytes: &[u8]) -> Result<usize, Flaw>
     requires { 9 ≤ length bytes.now }
-    ensures { is_wrong result.wrong ≡ true }
+{
+    let points = u32::from(bytes[7]);
+    let points = count_up_to(SMALL_POINTS, points, Wrong::PointsIn1(points), 7)?;
+    let scans = u32::from(bytes[8]);
+    let scans = count_up_to(SMALL_SCANS, scans, Wrong::ScansIn1(scans), 8)?;
+    past_all(bytes, 9, points, scans)
+}
+
+// The end of a record of version 2.
+fn end_in_version_2(bytes: &[u8]) -> Result<usize, Flaw>
+    requires { 9 ≤ length bytes.now }
 {
     if bytes.len() < 11 {
-        return Flaw {
+        return Err(Flaw {
             wrong: Wrong::Counts,
             at: bytes.len(),
-            number: 0,
-        };
+        });
     }
     let points = word2(bytes, 7);
-    if MAX_POINTS < points as usize {
-        return Flaw {
-            wrong: Wrong::Points,
-            at: 7,
-            number: points,
-        };
-    }
+    let points = count_up_to(MAX_POINTS, points, Wrong::Points(points), 7)?;
     let scans = word2(bytes, 9);
-    if MAX_SCANS < scans as usize {
-        return Flaw {
-            wrong: Wrong::Scans,
-            at: 9,
-            number: scans,
-        };
-    }
-    if version_for(points as usize, scans as usize) == VERSION_1 {
-        return Flaw {
+    let scans = count_up_to(MAX_SCANS, scans, Wrong::Scans(scans), 9)?;
+    if version_for(points, scans) == VERSION_1 {
+        return Err(Flaw {
             wrong: Wrong::Few,
             at: 2,
-            number: 0,
-        };
+        });
     }
-    behind_head(bytes, 11, points as usize, scans as usize)
+    past_all(bytes, 11, points, scans)
 }
 
-// What is wrong with bytes lent as a record, the first that is found from the front.
-pub fn find_flaw(bytes: &[u8]) -> Flaw
-    ensures { FlawIs bytes.now result }
-{
-    if check(bytes).number == Answer::COMMITTED.number {
-        return Flaw {
-            wrong: Wrong::Nothing,
-            at: 0,
-            number: 0,
-        };
-    }
+// The end of a record: past what its head says it holds. Else the first that is wrong, found from the front.
+fn end_of(bytes: &[u8]) -> Result<usize, Flaw> {
     if bytes.len() < 9 {
-        return Flaw {
+        return Err(Flaw {
             wrong: Wrong::Short,
             at: bytes.len(),
-            number: 0,
-        };
+        });
     }
     let length = word2(bytes, 0);
     if length as usize + 2 != bytes.len() {
-        return Flaw {
-            wrong: Wrong::Length,
+        return Err(Flaw {
+            wrong: Wrong::Length(length),
             at: 0,
-            number: length,
-        };
+        });
     }
-    if bytes[2] == VERSION_1 {
-        return in_version_1(bytes);
+    match bytes[2] {
+        VERSION_1 => end_in_version_1(bytes),
+        VERSION_2 => end_in_version_2(bytes),
+        version => Err(Flaw {
+            wrong: Wrong::Version(version),
+            at: 2,
+        }),
     }
-    if bytes[2] == VERSION_2 {
-        return in_version_2(bytes);
+}
+
+// What is wrong with bytes lent as a record, the first that is found from the front; none with a well-formed record.
+pub fn find_flaw(bytes: &[u8]) -> Option<Flaw>
+    ensures { FlawIs bytes.now result }
+{
+    if check(bytes) == Answer::COMMITTED {
+        return None;
     }
-    Flaw {
-        wrong: Wrong::Version,
-        at: 2,
-        number: wide(bytes[2]),
+    match end_of(bytes) {
+        Ok(end) => Some(Flaw {
+            wrong: Wrong::Rest,
+            at: end,
+        }),
+        Err(flaw) => Some(flaw),
     }
 }

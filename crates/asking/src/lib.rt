@@ -10,9 +10,9 @@ pub mod telling;
 pub mod touching;
 pub mod window;
 
-pub use digits::{Number, decimal};
+pub use digits::decimal;
 pub use flaws::{Flaw, Wrong, find_flaw};
 pub use line::{Numbers, numbers_of};
 pub use seeking::ask;
-pub use telling::{Told, tell};
+pub use telling::{Told, Unread, tell};
 pub use touching::{Named, named_by};

@@ -7,8 +7,6 @@ use record_log::Cut;
 
 #[derive(Clone, Copy)]
 pub enum Told {
-    // A read failed.
-    Unread,
     // No pool can be made: how many bytes of the limits there are, and what they say.
     Limits {
         held: usize,
@@ -20,6 +18,8 @@ pub enum Told {
         found: Cut,
         records: u32,
     },
+    // The pool is unfit.
+    Unfit,
     // The record was explained: the status of its pool, and the explanation.
     Record {
         status: Status,
@@ -27,12 +27,19 @@ pub enum Told {
     },
 }
 
+// A read failed, and nothing is told.
+#[derive(Clone, Copy)]
+pub struct Unread;
+
 // Explains bytes as a record to a pool; both are only read.
 pub fn tell(pool: &[u8], bytes: &[u8]) -> Told
     ensures { Tells pool.now bytes.now result }
 {
-    Told::Record {
-        status: status(pool),
-        explained: explain(pool, bytes),
+    match status(pool) {
+        Ok(status) => Told::Record {
+            status,
+            explained: explain(pool, bytes),
+        },
+        Err(_) => Told::Unfit,
     }
 }

@@ -1,31 +1,39 @@
 // The window on a log: the bytes from the log's place on, as many as are held, at its front.
-ghost use Rattle.std.specs.Prelude.{◌≤◌, length};
+ghost use Rattle.std.specs.Prelude.{◌≤◌, length, IfOk};
 ghost use Rattle.asking.specs.Window.{Shifted, Looked};
 
 use record_log::{Cut, cut};
 use std::io::Read;
 use stream::fill;
 
-// What a window filled up shows: how many bytes are held, whether a read failed, and what stands at the front.
+// A record at the window's front: how many bytes are held, and how many of them are the record's.
 #[derive(Clone, Copy)]
-pub struct Seen {
+pub struct Front {
     pub held: usize,
-    pub failed: bool,
-    pub found: Cut,
+    pub next: usize,
 }
 
-// Fills the window up behind the bytes held, and says what stands at its front.
-pub fn look<R: Read>(log: &mut R, window: &mut [u8], held: usize) -> Seen
+// Why there is none: a read failed, or no record stands there.
+#[derive(Clone, Copy)]
+pub enum Stop {
+    Unread,
+    Over(Cut),
+}
+
+// Fills the window up behind the bytes held, and finds the record at its front.
+pub fn look<R: Read>(log: &mut R, window: &mut [u8], held: usize) -> Result<Front, Stop>
     requires { held ≤ length window.old }
-    ensures { Looked held window.old window.new result }
+    ensures looked { Looked held window.old window.new result }
+    ensures within { IfOk result (λ front. (front.next ≤ front.held) × (front.held ≤ length window.new)) }
 {
     let filled = fill(log, window, held);
+    if filled.failed {
+        return Err(Stop::Unread);
+    }
     let held = filled.held;
-    let found = cut(&window[..held], 0);
-    Seen {
-        held,
-        failed: filled.failed,
-        found,
+    match cut(&window[..held], 0) {
+        Cut::Record(next) => Ok(Front { held, next }),
+        found => Err(Stop::Over(found)),
     }
 }
 
@@ -35,11 +43,6 @@ pub fn shift(window: &mut [u8], past: usize, held: usize) -> usize
     requires held_in_bounds { held ≤ length window.old }
     ensures { Shifted past held window.old window.new result }
 {
-    let left = held - past;
-    let mut i: usize = 0;
-    while i < left {
-        window[i] = window[past + i];
-        i += 1;
-    }
-    left
+    window.copy_within(past..held, 0);
+    held - past
 }

@@ -4,7 +4,7 @@
 ghost use Rattle.std.specs.Prelude.{◌≡◌, ◌*◌, ◌/◌, ◌^◌, ◌≤◌};
 ghost use Rattle.bits.specs.Bits.{part_height};
 
-// The bits of x above height h.
+// The bits of x above height h. The casts stay: over `u64::from` the proof of `cut` did not close.
 pub fn above(x: u32, h: u32) -> u64
     requires { h ≤ 32 }
     ensures { result ≡ x / 2 ^ h }

@@ -6,7 +6,6 @@ ghost use Rattle.lines.specs.Opening.{New};
 ghost use Rattle.lines.specs.Parts.{LogMelded};
 
 use lines::{HEAD, Output, feed_part, finish, open, print_answer, print_ending};
-use record::Answer;
 use record::limits::MAX_SIZE;
 use record_log::Cut;
 use std::io;
@@ -34,25 +33,22 @@ fn meld_log<P: Print>(out: &mut Output<P>, pool: &mut [u8], log: &[u8]) -> Cut
 {
     let mut carry = [0u8; MAX_SIZE];
     let going = feed_part(out, pool, &mut carry, 0, log, 1);
-    let carried = going.carried;
     if going.stopped {
         return Cut::Impossible;
     }
-    finish(pool, &mut carry, carried)
+    finish(pool, &mut carry, going.carried)
 }
 
 // Prints the lines of one input.
 fn print_verdicts<P: Print>(out: &mut Output<P>, input: &[u8]) {
     let mut pool = [0u8; POOL];
-    let asked = open(&mut pool, input, MOST_KEYS);
-    let answer = asked.answer;
-    let size = asked.size;
-    if answer.number != Answer::COMMITTED.number {
-        print_answer(out, answer);
-        return;
+    match open(&mut pool, input, MOST_KEYS) {
+        Ok(size) => {
+            let found = meld_log(out, &mut pool[..size], &input[HEAD..]);
+            print_ending(out, found);
+        }
+        Err(answer) => print_answer(out, answer),
     }
-    let found = meld_log(out, &mut pool[..size], &input[HEAD..]);
-    print_ending(out, found);
 }
 
 // Reads one case into the bytes lent, which are as many as it has, and prints its lines.
@@ -62,33 +58,33 @@ fn run_case<R: Read, P: Print>(input: &mut R, out: &mut Output<P>, number: u64, 
     print_verdicts(out, &space[..got]);
 }
 
-// The next case's length; one past the largest where no case follows.
-fn next_length<R: Read>(input: &mut R) -> usize {
+// The length in front of the next case, where its four bytes are there.
+fn next_length<R: Read>(input: &mut R) -> Option<usize> {
     let mut bytes = [0u8; 4];
-    let got = fill(input, &mut bytes, 0).held;
-    if got < 4 {
-        return CASE + 1;
+    if fill(input, &mut bytes, 0).held < 4 {
+        return None;
     }
-    word4(&bytes[..got], 0) as usize
+    Some(word4(&bytes, 0) as usize)
 }
 
-// Runs the next case, and answers whether there was one.
-fn run_next<R: Read, P: Print>(input: &mut R, out: &mut Output<P>, number: u64) -> bool {
-    let length = next_length(input);
+// Runs the next case, where one follows: its length is there and is not too large.
+fn run_next<R: Read, P: Print>(input: &mut R, out: &mut Output<P>, number: u64) -> Option<()> {
+    let length = next_length(input)?;
     if length > CASE {
-        return false;
+        return None;
     }
     let mut space = [0u8; CASE];
     run_case(input, out, number, &mut space[..length]);
-    true
+    Some(())
 }
 
 fn main(rt: HostRuntime) -> io::Result<()> {
     let mut input = rt.stdin();
     let mut out = Output::new(rt.stdout());
-    let mut number: u64 = 1;
-    while number < u64::MAX && run_next(&mut input, &mut out, number) {
-        number += 1;
+    for number in 1..u64::MAX {
+        if run_next(&mut input, &mut out, number).is_none() {
+            break;
+        }
     }
     out.end()
 }

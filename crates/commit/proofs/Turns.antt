@@ -1,7 +1,7 @@
 -- The turns of the loop that applies points: what is stored so far, and storing what is left, make the whole.
 -- Assumes nothing.
 use Prim.Native.Nat.{ℕ, ◌+◌, ◌≤◌, ◌<◌}
-use mathlib.Core.Path.{◌≡◌, refl, sym, ap, ◌∙◌, subst}
+use mathlib.Core.Path.{◌≡◌, sym, ap, ◌∙◌, subst}
 use mathlib.Core.List.{List, [], ◌∷◌}
 use native.Mathlib.Omega.{arith}
 use native.Mathlib.Numerals.{add-one}
@@ -13,8 +13,7 @@ use Rattle.rules.specs.State.{Entry}
 use Rattle.rules.specs.Footprint.{stored_at}
 use Rattle.rules.proofs.Written.{stored_at_lem}
 use Rattle.pool.specs.Image.{Arrangement, Image}
-use Rattle.put.specs.declared.value.Value.{Value}
-use Rattle.put.specs.Values.{entry_of}
+use Rattle.put.specs.Values.{Value, entry_of}
 use Rattle.put.specs.Storing.{put_in}
 use Rattle.put.specs.Asks.{Roomy}
 use Rattle.commit.specs.Applied.{point_from, points_in, value_of, store_in, writes_in, AllStorable, Applicable, Applies}
@@ -37,9 +36,6 @@ pub record Going (m₀ kinds ks xs m : List ℕ) (i : ℕ) : Type 0 where
   pub within : i ≤ length ks
   pub same : length m ≡ length m₀
   pub halves : (A : Arrangement) → Image m₀ A → Half m kinds ks xs i A
-
-pub starts : (m kinds ks xs : List ℕ) → Going m kinds ks xs m 0
-starts m kinds ks xs = record { within = omega arith; same = refl; halves = λ A q. record { present = A; image = q; p_is = refl; rest = refl; room = λ s. s } }
 
 -- all writes can be stored, for the arrangement that is asked for
 all_storable : (m kinds ks xs : List ℕ) (a : Applicable m kinds ks xs) → AllStorable a.arrangement (writes_in a.arrangement.p kinds ks xs)

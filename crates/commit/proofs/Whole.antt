@@ -9,33 +9,18 @@ use Rattle.nodes.specs.declared.header.Header.{Header}
 use Rattle.nodes.specs.Nodes.{header_at}
 use Rattle.rules.specs.State.{Entry}
 use Rattle.rules.specs.Verdict.{store_all}
-use Rattle.pool.specs.Image.{Arrangement, Image, Fit}
+use Rattle.pool.specs.Image.{Arrangement, Image}
 use Rattle.drop.specs.Drop.{drop_in}
 use Rattle.advance.specs.Moved.{moved_on}
 use Rattle.drop.proofs.Arranging.{drop_kept}
 use Rattle.commit.specs.Applied.{writes_in, Applicable, Applies}
-use Rattle.commit.specs.Commit.{old_at, commit_in, commit_lean, Committable, all_kept, not_old}
+use Rattle.commit.specs.Commit.{old_at, commit_in, commit_lean, Committable, not_old}
 
 module _ (m kinds ks xs m₁ : List ℕ) (moved : (A : Arrangement) → Image m A → Image m₁ (moved_on A)) where
-  pub writes_apply : Committable m kinds ks xs all_kept → Applicable m₁ kinds ks xs
-  writes_apply c =
-      record {
-        arrangement = moved_on c.arrangement;
-        image = moved c.arrangement c.image;
-        written_at = omega arith;
-        as_many_keys = c.as_many_keys;
-        as_many_payloads = c.as_many_payloads;
-        sized = c.sized;
-        room = c.room;
-      }
-
   pub writes_leave : (m₂ : List ℕ) → Applies m₁ kinds ks xs m₂ → (A : Arrangement) → Image m A → Image m₂ (commit_in kinds ks xs A)
   writes_leave m₂ f A i = f (moved_on A) (moved A i)
 
   module _ (c : Committable m kinds ks xs not_old) where
-    pub still_fit : Fit m₁
-    still_fit = record { arrangement = moved_on c.arrangement; image = moved c.arrangement c.image }
-
     module _ (h : Header) (eh : h ≡ header_at m₁) (limit : ℕ) (el : limit ≡ h.position - h.zone) where
       limit_is : (A : Arrangement) → Image m A → limit ≡ old_at A
       limit_is A i =

@@ -1,6 +1,6 @@
 -- Applying points to an arrangement (R28): puts and deletes are stored at v, anything else is passed over. Which deletes write (R22) was found out before.
 -- Assumes nothing: these are definitions.
-use Rattle.std.specs.Prelude.{ℕ, ◌≤◌, ◌≡◌, length, eqb}
+use Rattle.std.specs.Prelude.{ℕ, ◌≤◌, ◌≡◌, length, eqb, Some, None}
 use mathlib.Core.List.{List, [], ◌∷◌, Memᴰ as Mem}
 use Rattle.record.specs.declared.point.Point.{Point}
 use Rattle.record.specs.declared.point.Point.TheVariants.{Read, Put, Delete}
@@ -10,8 +10,7 @@ use Rattle.rules.specs.EntryFits.{EntryFits}
 use Rattle.rules.specs.Footprint.{stored_at}
 use Rattle.rules.specs.Verdict.{store_all}
 use Rattle.pool.specs.Image.{Arrangement, Image, state_of}
-use Rattle.put.specs.declared.value.Value.{Value}
-use Rattle.put.specs.declared.value.Value.TheVariants.{Live, Tombstone}
+use Rattle.put.specs.Values.{Value}
 use Rattle.put.specs.Storing.{put_in}
 
 -- the point of a kind, a key and a payload (R5): 2 is a put, 3 a delete; anything else is passed over like a read (R22)
@@ -27,9 +26,9 @@ points_in (kind ∷ kinds) (k ∷ ks) (x ∷ xs) = point_from kind k x ∷ point
 
 -- what a point stores
 abbrev pub value_of : Point → Value
-value_of (Read k) = Tombstone
-value_of (Put k x) = Live x
-value_of (Delete k) = Tombstone
+value_of (Read k) = None
+value_of (Put k x) = Some x
+value_of (Delete k) = None
 
 -- entries stored one after the other
 unfoldable pub store_in : Arrangement → List Entry → Arrangement

@@ -3,30 +3,28 @@ ghost use Rattle.std.specs.Prelude.{◌≡◌, length};
 ghost use Rattle.pool.specs.Image.{Arrangement, Image};
 ghost use Rattle.commit.specs.Applied.{point_from, value_of, Applicable, Applies};
 
-use put::{Value, put};
+use put::put;
 use record::Point;
+use record::point::{DELETE, PUT};
 
 // The point that a kind, a key and a payload name: 2 is a put, 3 a delete, and anything else is passed over like a read.
 fn point_of(kind: u8, key: u32, payload: u64) -> Point
     ensures { result ≡ point_from kind key payload }
 {
-    if kind == 2 {
-        return Point::Put(key, payload);
+    match kind {
+        PUT => Point::Put(key, payload),
+        DELETE => Point::Delete(key),
+        _ => Point::Read(key),
     }
-    if kind == 3 {
-        return Point::Delete(key);
-    }
-    Point::Read(key)
 }
 
 // What a point stores: a put its payload, a delete a tombstone.
-fn value_of(point: Point) -> Value
+fn value_of(point: Point) -> Option<u64>
     ensures { result ≡ value_of point }
 {
     match point {
-        Point::Put(_, payload) => Value::Live(payload),
-        Point::Read(_) => Value::Tombstone,
-        Point::Delete(_) => Value::Tombstone,
+        Point::Put(_, payload) => Some(payload),
+        Point::Read(_) | Point::Delete(_) => None,
     }
 }
 
@@ -35,10 +33,9 @@ pub fn apply(pool: &mut [u8], kinds: &[u8], keys: &[u32], payloads: &[u64])
     requires { Applicable pool.old kinds.now keys.now payloads.now }
     ensures { Applies pool.old kinds.now keys.now payloads.now pool.new }
 {
-    let mut i: usize = 0;
-    while i < keys.len() {
+    for i in 0..keys.len() {
         let point = point_of(kinds[i], keys[i], payloads[i]);
-        i += 1;
+        // A `let .. else`, as the table of forms in docs/DECISIONS.md has it.
         let (Point::Put(key, _) | Point::Delete(key)) = point else {
             continue;
         };

@@ -12,7 +12,7 @@ use nodes::read_header;
 fn old_at(v: u32, zone: u32) -> u32
     ensures { result ≡ v - zone }
 {
-    if zone <= v { v - zone } else { 0 }
+    v.saturating_sub(zone)
 }
 
 // Moves the position on and stores the writes there.

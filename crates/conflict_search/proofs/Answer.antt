@@ -3,12 +3,13 @@
 -- Assumes nothing.
 use Prim.Native.Nat.{ℕ, ◌+◌, ◌*◌, ◌≤◌}
 use mathlib.Core.Path.{◌≡◌, refl, sym, ap, ◌∙◌}
-use mathlib.Core.Bool.{Bool, not}
+use mathlib.Core.Bool.{Bool}
 use mathlib.Core.List.{List, map, Memᴰ as Mem}
 use mathlib.Core.Option.{Option, none, some}
-use lib.Dec.{T, eqb}
-use native.Mathlib.Decide.{ℕ_discrete}
-use borrow.Author.Tests.{eq-eqb, ne_eqb}
+use lib.Dec.{T}
+use Rattle.std.specs.Prelude as Code
+use Rattle.std.specs.Prelude.{Some, None}
+use Rattle.std.specs.Option.{is_some}
 use lib.ListN.{length}
 use Rattle.record.specs.Record.{Rec, key_of, Valid}
 use Rattle.record.specs.Reader.{low_of, high_of}
@@ -21,19 +22,19 @@ use Rattle.rules.proofs.Marks.{marks_of, marks_length, marks_marked, apart_order
 use Rattle.rules.proofs.Bound.{looks_bound}
 use Rattle.rules.proofs.Trees.{tree_of_canonical}
 use Rattle.rules.proofs.Search.{walk_conflicts}
-use Rattle.pool.specs.Plan.{Plan, tree_in, no_node}
+use Rattle.pool.specs.Plan.{Plan, tree_in}
 use Rattle.pool.specs.Image.{Arrangement, Image, tree_or, state_of}
 use Rattle.pool.specs.Subtree.{StandsAt}
 use Rattle.pool.proofs.Root.{Rooting, bare, planted, rooting}
 use Rattle.conflict_search.specs.declared.Searched.{Searched}
 use Rattle.conflict_search.specs.Sorted.{footprint}
-use Rattle.conflict_search.specs.Conflict.{Leaf, leaves_of, leaves_or, first_hit, conflict_in}
-use Rattle.conflict_search.proofs.Hit.{First, no_leaf, one_leaf, first_hit_lem, found_true, found_false}
+use Rattle.conflict_search.specs.Conflict.{Leaf, leaves_or, first_hit, conflict_in}
+use Rattle.conflict_search.proofs.Hit.{First, no_leaf, one_leaf, first_hit_lem, walk_tells}
 use Rattle.conflict_search.proofs.Reach.{footprint_reach}
 
 -- whether the answer names a leaf
 abbrev pub names_leaf : Searched → Bool
-names_leaf r = not (eqb r.leaf no_node)
+names_leaf r = is_some r.leaf
 
 -- in an empty tree, and in any other
 named_none : (s : ℕ) (f : List Scan) → names_leaf (conflict_in s f none) ≡ (walk s f (tree_or none)).found
@@ -41,10 +42,7 @@ unfolding first_hit walk
 named_none s f = refl
 
 named_tree : (s : ℕ) (f : List Scan) {m : List ℕ} {i : ℕ} (P : Plan) → StandsAt m i P → names_leaf (conflict_in s f (some P)) ≡ (walk s f (tree_in P)).found
-named_tree s f P st = elim (ℕ_discrete (first_hit s f (leaves_of P)) no_node) [
-  | yes e ↦ rw (eq-eqb (first_hit s f (leaves_of P)) no_node e) (sym (found_false s f P st e))
-  | no d ↦ rw (ne_eqb (first_hit s f (leaves_of P)) no_node d) (sym (found_true s f P st d))
-]
+named_tree s f P st = sym (walk_tells s f P st)
 
 -- a leaf is named exactly if the walk finds the conflict
 pub named_found : {m : List ℕ} {A : Arrangement} (s : ℕ) (f : List Scan) → Image m A → names_leaf (conflict_in s f A.tree) ≡ (walk s f (tree_or A.tree)).found
@@ -55,11 +53,11 @@ named_found {m} {A} s f x = go (rooting x)
     go (planted P e st) = rw e (named_tree s f P st)
 
 -- the leaf named is a leaf of the tree, and its entry is named or scanned and was written above s
-pub named_hits : (s : ℕ) (f : List Scan) (t : Option Plan) → ((conflict_in s f t).leaf ≡ no_node → ⊥)
-    → (x : Leaf) × Mem x (leaves_or t) × (x.number ≡ (conflict_in s f t).leaf) × T (hits s f x.entry)
+pub named_hits : (s : ℕ) (f : List Scan) (t : Option Plan) → ((conflict_in s f t).leaf ≡ None → ⊥)
+    → (x : Leaf) × Mem x (leaves_or t) × (Some x.number ≡ (conflict_in s f t).leaf) × T (hits s f x.entry)
 named_hits s f t d = go (first_hit_lem s f (leaves_or t)) refl
   where
-    go : {j : ℕ} → First s f (leaves_or t) j → first_hit s f (leaves_or t) ≡ j → (x : Leaf) × Mem x (leaves_or t) × (x.number ≡ first_hit s f (leaves_or t)) × T (hits s f x.entry)
+    go : {j : Code.Option ℕ} → First s f (leaves_or t) j → first_hit s f (leaves_or t) ≡ j → (x : Leaf) × Mem x (leaves_or t) × (Some x.number ≡ first_hit s f (leaves_or t)) × T (hits s f x.entry)
     go (no_leaf g) q = absurd (d q)
     go (one_leaf x m h) q = (x, m, sym q, h)
 

@@ -13,6 +13,8 @@ use mathlib.Core.List.Memᴰ.{tail as there}
 use mathlib.Core.List.{List, [], ◌∷◌, ◌++◌, map, Memᴰ as Mem}
 use native.Mathlib.Omega.{arith}
 use lib.Dec.{T, T_not}
+use Rattle.std.specs.Prelude as Code
+use Rattle.std.specs.Prelude.{Some}
 use Rattle.record.specs.declared.point.Scan.{Scan}
 use Rattle.nodes.specs.Nodes.{node_at}
 use Rattle.rules.specs.State.{Entry, Rising, link}
@@ -52,16 +54,16 @@ leaves_kept (some T) = leaves_entries T
 -- THE FIRST LEAF THAT IS HIT
 
 -- leaf i is hit, and none that is hit has a smaller key
-pub record LeastHit (s : ℕ) (f : List Scan) (xs : List Leaf) (i : ℕ) : Type 0 where
+pub record LeastHit (s : ℕ) (f : List Scan) (xs : List Leaf) (i : Code.Option ℕ) : Type 0 where
   pub leaf : Leaf
   pub among : Mem leaf xs
-  pub number_is : leaf.number ≡ i
+  pub number_is : Some leaf.number ≡ i
   pub hit : T (hits s f leaf.entry)
   pub least : (y : Leaf) → Mem y xs → T (hits s f y.entry) → leaf.entry.key ≤ y.entry.key
 
 module _ (s : ℕ) (f : List Scan) where
   -- the first is hit, and the others have larger keys
-  first_least : (x : Leaf) (xs : List Leaf) {lo hi : ℕ} → Rising hi lo (map entry_in (x ∷ xs)) → T (hits s f x.entry) → LeastHit s f (x ∷ xs) x.number
+  first_least : (x : Leaf) (xs : List Leaf) {lo hi : ℕ} → Rising hi lo (map entry_in (x ∷ xs)) → T (hits s f x.entry) → LeastHit s f (x ∷ xs) (Some x.number)
   first_least x xs (link l rise) h = record {
     leaf = x;
     among = here refl;
@@ -71,7 +73,7 @@ module _ (s : ℕ) (f : List Scan) where
   }
 
   -- the first is not hit
-  later_least : (x : Leaf) (xs : List Leaf) {i : ℕ} → T (not (hits s f x.entry)) → LeastHit s f xs i → LeastHit s f (x ∷ xs) i
+  later_least : (x : Leaf) (xs : List Leaf) {i : Code.Option ℕ} → T (not (hits s f x.entry)) → LeastHit s f xs i → LeastHit s f (x ∷ xs) i
   later_least x xs n w = record {
     leaf = w.leaf;
     among = there w.among;
@@ -122,26 +124,28 @@ leaf_numbered (some T) n = leaf_number T n
 
 module _ {m : List ℕ} {A : Arrangement} (i : Image m A) (s : ℕ) (f : List Scan) where
   -- the leaf that is named, where a kept entry is hit
-  pub named_least : (e : Entry) → Mem e (state_of A).kept → T (hits s f e) → NamedLeaf m A s f (first_hit s f (leaves_or A.tree))
+  pub named_least : (e : Entry) → Mem e (state_of A).kept → T (hits s f e) → (j : ℕ) × (first_hit s f (leaves_or A.tree) ≡ Some j) × NamedLeaf m A s f j
   named_least e k t = told (least_in s f (leaves_or A.tree) (subst (Rising (2 ^ 32) 0) (sym (leaves_kept A.tree)) i.arranged.lawful.rising) y.0 y.1 (subst (λ (z : Entry). T (hits s f z)) (sym y.2) t))
     where
       y : (x : Leaf) × Mem x (leaves_or A.tree) × (x.entry ≡ e)
       y = kept_leaf A.tree k
 
-      told : {j : ℕ} → LeastHit s f (leaves_or A.tree) j → NamedLeaf m A s f j
+      told : {o : Code.Option ℕ} → LeastHit s f (leaves_or A.tree) o → (j : ℕ) × (o ≡ Some j) × NamedLeaf m A s f j
       told w =
           let x = w.leaf in
-          let words = tree_words m A.tree i.tree w.among in
-          let at = w.number_is in
-          record {
-            entry = x.entry;
-            within = omega (arith, below_mem i.arranged.below (in_left A.free (leaf_numbered A.tree w.among)), i.size, at);
-            key_is = ap (λ (n : ℕ). (node_at m n).low) (sym at) ∙ ap (λ n. n.low) words ∙ leaf_low x.entry.key x.entry.position x.entry.payload;
-            position_is = ap (λ (n : ℕ). (node_at m n).newest) (sym at) ∙ ap (λ n. n.newest) words ∙ leaf_newest x.entry.key x.entry.position x.entry.payload;
-            smallest = record {
-              kept = leaf_kept A.tree w.among;
-              hit = w.hit;
-              least = λ e' k' t'. let z = kept_leaf A.tree k' in
-                  subst (λ (c : Entry). x.entry.key ≤ c.key) z.2 (w.least z.0 z.1 (subst (λ (c : Entry). T (hits s f c)) (sym z.2) t'));
-            };
-          }
+          let words = tree_words m A.tree i.tree w.among in (
+            x.number,
+            sym w.number_is,
+            record {
+              entry = x.entry;
+              within = omega (arith, below_mem i.arranged.below (in_left A.free (leaf_numbered A.tree w.among)), i.size);
+              key_is = ap (λ n. n.low) words ∙ leaf_low x.entry.key x.entry.position x.entry.payload;
+              position_is = ap (λ n. n.newest) words ∙ leaf_newest x.entry.key x.entry.position x.entry.payload;
+              smallest = record {
+                kept = leaf_kept A.tree w.among;
+                hit = w.hit;
+                least = λ e' k' t'. let z = kept_leaf A.tree k' in
+                    subst (λ (c : Entry). x.entry.key ≤ c.key) z.2 (w.least z.0 z.1 (subst (λ (c : Entry). T (hits s f c)) (sym z.2) t'));
+              };
+            },
+          )

@@ -1,13 +1,14 @@
 -- What the walk answers: which leaf is the conflict, and the looks of the search (R35).
 -- Assumes nothing: these are definitions.
-use Rattle.std.specs.Prelude.{ℕ, List, [], ◌∷◌, ◌++◌}
+use Rattle.std.specs.Prelude as Code
+use Rattle.std.specs.Prelude.{ℕ, List, [], ◌∷◌, ◌++◌, Some, None}
 use Rattle.std.proofs.Math.Option.{Option, none, some}
 use Rattle.record.specs.declared.point.Scan.{Scan}
 use Rattle.std.specs.Prelude.{if◌then◌else◌}
 use Rattle.rules.specs.State.{Entry}
 use Rattle.rules.specs.Verdict.{hits}
 use Rattle.rules.specs.Tree.{walk}
-use Rattle.pool.specs.Plan.{Plan, leaf, node, no_node}
+use Rattle.pool.specs.Plan.{Plan, leaf, node}
 use Rattle.pool.specs.Image.{tree_or}
 use Rattle.conflict_search.specs.declared.Searched.{Searched}
 
@@ -26,10 +27,10 @@ abbrev pub leaves_or : Option Plan → List Leaf
 leaves_or none = []
 leaves_or (some T) = leaves_of T
 
--- the number of the first leaf that is named or scanned and was written above s
-unfoldable pub first_hit : ℕ → List Scan → List Leaf → ℕ
-first_hit s f [] = no_node
-first_hit s f (x ∷ xs) = if hits s f x.entry then x.number else first_hit s f xs
+-- the number of the first leaf that is named or scanned and was written above s, if there is one
+unfoldable pub first_hit : ℕ → List Scan → List Leaf → Code.Option ℕ
+first_hit s f [] = None
+first_hit s f (x ∷ xs) = if hits s f x.entry then Some x.number else first_hit s f xs
 
 -- that leaf, and how many nodes the search looks at
 abbrev pub conflict_in : ℕ → List Scan → Option Plan → Searched

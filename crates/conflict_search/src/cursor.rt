@@ -2,11 +2,13 @@
 ghost use Rattle.std.specs.Prelude.{◌≡◌, ◌+◌, ◌^◌, ◌≤◌, ◌<◌, ◌||◌, length};
 ghost use Rattle.conflict_search.specs.Cursor.{Reached, below_at};
 
-// The same number, wider.
-pub fn widen(x: u32) -> u64
-    ensures { (result ≡ x) × (result < 2 ^ 32) }
-{
-    x as u64
+use crate::footprint::Footprint;
+
+// Where the search stands in a record's lists.
+#[derive(Clone, Copy)]
+pub struct Cursors {
+    pub point: usize,
+    pub scan: usize,
 }
 
 // The first place from a cursor on whose number is at least `from`, the list's end if there is none.
@@ -14,32 +16,24 @@ pub fn forward(numbers: &[u32], cursor: usize, from: u32) -> usize
     requires { cursor ≤ length numbers.now }
     ensures { Reached numbers.now cursor from result }
 {
-    let mut i = cursor;
-    while i < numbers.len() {
+    for i in cursor..numbers.len() {
         if from <= numbers[i] {
             return i;
         }
-        i += 1;
     }
-    i
+    numbers.len()
 }
 
 // Whether there is a number at a cursor, and it is below `to`.
 pub fn below(numbers: &[u32], cursor: usize, to: u64) -> bool
     ensures { result ≡ below_at numbers.now cursor to }
 {
-    if numbers.len() <= cursor {
-        return false;
-    }
-    widen(numbers[cursor]) < to
+    cursor < numbers.len() && u64::from(numbers[cursor]) < to
 }
 
 // Whether the key or the scan at its cursor begins below `to`.
-pub fn touched(keys: &[u32], lows: &[u32], point: usize, scan: usize, to: u64) -> bool
-    ensures { result ≡ below_at keys.now point to || below_at lows.now scan to }
+pub fn touched(lists: &Footprint<'_>, cursors: Cursors, to: u64) -> bool
+    ensures { result ≡ below_at lists.now.keys.now cursors.point to || below_at lists.now.lows.now cursors.scan to }
 {
-    if below(keys, point, to) {
-        return true;
-    }
-    below(lows, scan, to)
+    below(lists.keys, cursors.point, to) || below(lists.lows, cursors.scan, to)
 }

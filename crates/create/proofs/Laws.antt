@@ -3,16 +3,13 @@
 use Prim.Native.Nat.{ℕ, zero, suc, ◌+◌, ◌-◌, ◌*◌, ◌^◌, ◌≤◌, ◌<◌}
 use mathlib.Core.Path.{◌≡◌, refl, sym, ap, ◌∙◌, subst}
 use mathlib.Core.Bool.{Bool, true, false, not, ◌&&◌}
-use mathlib.Core.List.{List, [], ◌∷◌}
-use mathlib.Core.Logic.{inr, ⊎_elim}
+use mathlib.Core.List.{List}
+use mathlib.Core.Logic.{inr}
 use native.Mathlib.Omega.{arith}
 use native.Mathlib.Decide.{dec_lt}
 use lib.Dec.{leb, eqb}
-use lib.ListN.{length, get_or, set, length-set}
-use lib.Seq.{get_or-set_same, get_or-set_other}
-use borrow.Author.Tests.{leb-true, eqb-true, le-leb, lt-leb, eq-eqb, ne_eqb, not-true, not-false}
-use Rattle.words.specs.Word.{Bytes}
-use Rattle.words.specs.Laws.{bytes_sets}
+use lib.ListN.{length}
+use borrow.Author.Tests.{leb-true, eqb-true, eq-eqb, ne_eqb, not-true, not-false}
 use Rattle.nodes.specs.declared.node.Node.{Node}
 use Rattle.nodes.specs.declared.header.Header.{Header}
 use Rattle.nodes.specs.Nodes.{node_at, put_node, header_at, put_header}
@@ -30,27 +27,6 @@ use Rattle.create.specs.Fresh.{up_from, fresh_plan, limits_ok, Created}
 use Rattle.create.specs.Steps.{next_free, FreedBefore, Cleared}
 
 -- THE LIMITS
-
-module _ (n z size : ℕ) where
-  pub low_n : n < 1 → false ≡ limits_ok n z size
-  unfolding limits_ok
-  low_n a = rw (lt-leb 1 n a)
-
-  pub high_n : 1 ≤ n → 65536 < n → false ≡ limits_ok n z size
-  unfolding limits_ok
-  high_n a b = rw (le-leb 1 n a, lt-leb n 65536 b)
-
-  pub low_z : 1 ≤ n → n ≤ 65536 → z < 1 → false ≡ limits_ok n z size
-  unfolding limits_ok
-  low_z a b c = rw (le-leb 1 n a, le-leb n 65536 b, lt-leb 1 z c)
-
-  pub high_z : 1 ≤ n → n ≤ 65536 → 1 ≤ z → 4096 < z → false ≡ limits_ok n z size
-  unfolding limits_ok
-  high_z a b c d = rw (le-leb 1 n a, le-leb n 65536 b, le-leb 1 z c, lt-leb z 4096 d)
-
-  pub in_range : 1 ≤ n → n ≤ 65536 → 1 ≤ z → z ≤ 4096 → eqb size (64 + 64 * n) ≡ limits_ok n z size
-  unfolding limits_ok
-  in_range a b c d = rw (le-leb 1 n a, le-leb n 65536 b, le-leb 1 z c, le-leb z 4096 d)
 
 differ {ℓ} : {A : Type ℓ} → true ≡ false → A
 differ h = absurd (omega (arith, ap bit h))
@@ -86,9 +62,6 @@ pub free_made : (nodes i next behind : ℕ) → next ≡ next_free nodes i → b
     → record { height = free_height; low = next; newest = behind + 1; oldest = 0; left = 0; right = 0; kind = 0; spare = 0 } ≡ free_node (next_free nodes i) (nodes - i)
 free_made nodes i next behind e r = λ k. free_node (e k) (r k)
 
-pub freed_none : (nodes : ℕ) (m : List ℕ) → Bytes m → FreedBefore nodes 0 m m
-freed_none nodes m b = record { as_long = refl; bytes = b; freed = λ j l. absurd (omega arith) }
-
 next_fits : (nodes i : ℕ) → i < nodes → nodes ≤ 131072 → next_free nodes i < 4294967296
 next_fits nodes i l s = go (eqb (i + 1) nodes)
   where
@@ -113,36 +86,6 @@ freed_more nodes i m m' m'' n f l room few en e =
 
     here : node_at (put_node m' i free) i ≡ free_node (next_free nodes i) (nodes - i)
     here = node_put m' i free (omega (arith, f.as_long)) (omega arith, (next_fits nodes i l few, (omega arith, (omega arith, (omega arith, (omega arith, (omega arith, (omega arith, tt))))))))
-
-pub freed_all : (nodes i : ℕ) (m m' : List ℕ) → FreedBefore nodes i m m' → nodes ≤ i → i ≤ nodes → FreedBefore nodes nodes m m'
-freed_all nodes i m m' f a b = subst (λ (x : ℕ). FreedBefore nodes x m m') (omega arith) f
-
--- THE ZEROS
-
-pub cleared_none : (m : List ℕ) → Bytes m → Cleared 28 m m
-cleared_none m b = record { as_long = refl; bytes = b; zeros = λ k p q. absurd (omega arith); others = λ k w. refl }
-
-bytes_zero : Bytes (0 ∷ [])
-bytes_zero = record { byte = at }
-  where
-    at : (i : ℕ) → get_or (0 ∷ []) i 0 < 256
-    at zero = omega arith
-    at (suc i) = omega arith
-
-pub cleared_more : (at : ℕ) (m m' : List ℕ) → Cleared at m m' → 28 ≤ at → at < 64 → 64 ≤ length m → Cleared (at + 1) m (set m' at 0)
-cleared_more at m m' f a b room =
-    record {
-      as_long = length-set m' at 0 ∙ f.as_long;
-      bytes = bytes_sets (0 ∷ []) m' at bytes_zero f.bytes;
-      zeros = λ k p q. elim (dec_lt k at) [
-        | yes g ↦ get_or-set_other m' at k 0 0 (λ x. omega (arith, x)) ∙ f.zeros k p g
-        | no g ↦ subst (λ (x : ℕ). get_or (set m' at 0) x 0 ≡ 0) (omega arith) (get_or-set_same m' at 0 0 (omega (arith, f.as_long)))
-      ];
-      others = λ k w. get_or-set_other m' at k 0 0 (λ x. ⊎_elim (λ h. omega (arith, x, h)) (λ h. omega (arith, x, h)) w) ∙ f.others k w;
-    }
-
-pub cleared_all : (at : ℕ) (m m' : List ℕ) → Cleared at m m' → 64 ≤ at → at ≤ 64 → Cleared 64 m m'
-cleared_all at m m' f a b = subst (λ (x : ℕ). Cleared x m m') (omega arith) f
 
 -- THE NEW POOL
 

@@ -11,22 +11,11 @@ use nodes::{FREE, Header, NO_NODE, Node, write_header, write_node};
 use record::answer::Answer;
 
 // Whether the limits are in their ranges and a pool for them has this size.
+#[tactic(auto, unfolding(crate::specs::Fresh::limits_ok))]
 fn limits_hold(n: u32, z: u32, size: usize) -> bool
     ensures { result ≡ limits_ok n z size }
 {
-    if n < 1 {
-        return false;
-    }
-    if n > 65536 {
-        return false;
-    }
-    if z < 1 {
-        return false;
-    }
-    if z > 4096 {
-        return false;
-    }
-    size == 64 + 64 * (n as usize)
+    (1..=65536).contains(&n) && (1..=4096).contains(&z) && size == 64 + 64 * (n as usize)
 }
 
 // Free node i of so many: its next is the node behind it, its rank how many there are from it on.
@@ -53,10 +42,8 @@ fn free_all(pool: &mut [u8], nodes: u32)
     requires { (64 + 32 * nodes ≤ length pool.old) × (nodes ≤ 131072) }
     ensures { FreedBefore nodes nodes pool.old pool.new }
 {
-    let mut i: u32 = 0;
-    while i < nodes {
+    for i in 0..nodes {
         write_node(pool, i, free_node(i, nodes));
-        i += 1;
     }
 }
 
@@ -65,10 +52,8 @@ fn clear(pool: &mut [u8])
     requires { (64 ≤ length pool.old) × Bytes pool.old }
     ensures { Cleared 64 pool.old pool.new }
 {
-    let mut at: usize = 28;
-    while at < 64 {
+    for at in 28..64 {
         pool[at] = 0;
-        at += 1;
     }
 }
 

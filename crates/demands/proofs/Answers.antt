@@ -8,17 +8,16 @@ use mathlib.Core.Bool.{Bool}
 use mathlib.Core.List.{List, [], ◌∷◌, map}
 use denote.Ref.{Bor}
 use Rattle.words.specs.Word.{Bytes}
+use Rattle.std.specs.Prelude.{Result}
 use Rattle.record.specs.declared.answer.Answer.{Answer}
 use Rattle.record.specs.declared.point.Point.{Point}
 use Rattle.record.specs.declared.point.Scan.{Scan}
 use Rattle.record.specs.declared.reader.Reading.{Reading}
-use Rattle.record.specs.Record.{kind_of, key_of, payload_of, KindIs, KeyIs, PayloadIs}
+use Rattle.record.specs.Record.{kind_of, key_of, size_of, payload_of, KindIs, KeyIs, SizeIs, PayloadIs}
 use Rattle.record.specs.Parse.{parse, check_of, CheckIs}
 use Rattle.record.specs.Reader.{Lists, lists, low_of, high_of, ReadOutcome, read_outcome, ReadsAs}
-use Rattle.writer.specs.declared.Written.{Written}
 use Rattle.writer.specs.Writer.{WriteOutcome, write_outcome, WritesAs}
 use Rattle.pairs.specs.Pairs.{PairsWritten, OneWritten}
-use Rattle.joiner.specs.declared.Joined.{Joined}
 use Rattle.joiner.specs.Joiner.{JoinsAs}
 use Rattle.joiner.proofs.Only.{only_join}
 use Rattle.record_log.specs.declared.found.Cut.{Cut}
@@ -71,6 +70,9 @@ kind_one q = one_if_equal (kind_of q)
 pub key_one : (q : Point) → OneAnswer (KeyIs q)
 key_one q = one_if_equal (key_of q)
 
+pub size_one : (q : Point) → OneAnswer (SizeIs q)
+size_one q = one_if_equal (size_of q)
+
 pub payload_one : (q : Point) → OneAnswer (PayloadIs q)
 payload_one q = one_if_equal (payload_of q)
 
@@ -80,27 +82,27 @@ place_one reader = one_if_equal reader.place
 -- WHERE IT IS MORE
 
 -- the reading and all five lists
-pub read_one : (bytes : List ℕ) (before : Lists) → OneAnswer (λ (x : Reading × Lists). ReadsAs bytes before x.0 x.1)
+pub read_one : (bytes : List ℕ) (before : Lists) → OneAnswer (λ (x : Result Reading Answer × Lists). ReadsAs bytes before x.0 x.1)
 read_one bytes before x y p q =
     let e : read_outcome x.0 x.1 ≡ read_outcome y.0 y.1 = p ∙ sym q in
     λ i. (ap (λ (o : ReadOutcome). o.reading) e i, ap (λ (o : ReadOutcome). o.left) e i)
 
 -- what is given back and the whole output
-pub write_one : (snapshot : ℕ) (l : Lists) (before : List ℕ) → OneAnswer (λ (x : Written × List ℕ). WritesAs snapshot l before x.0 x.1)
+pub write_one : (snapshot : ℕ) (l : Lists) (before : List ℕ) → OneAnswer (λ (x : Result ℕ Answer × List ℕ). WritesAs snapshot l before x.0 x.1)
 write_one snapshot l before x y p q =
     let e : write_outcome x.0 x.1 ≡ write_outcome y.0 y.1 = p ∙ sym q in
     λ i. (ap (λ (o : WriteOutcome). o.written) e i, ap (λ (o : WriteOutcome). o.left) e i)
 
 pub write_pairs_one : (snapshot : ℕ) (ks es xs : List ℕ) (cs : List Scan) (before : List ℕ)
-    → OneAnswer (λ (x : Written × List ℕ). PairsWritten snapshot ks es xs cs before x.0 x.1)
+    → OneAnswer (λ (x : Result ℕ Answer × List ℕ). PairsWritten snapshot ks es xs cs before x.0 x.1)
 write_pairs_one snapshot ks es xs cs before = write_one snapshot (lists ks es xs (map low_of cs) (map high_of cs)) before
 
 pub write_single_one : (snapshot : ℕ) (ks es xs : List ℕ) (c : Scan) (before : List ℕ)
-    → OneAnswer (λ (x : Written × List ℕ). OneWritten snapshot ks es xs c before x.0 x.1)
+    → OneAnswer (λ (x : Result ℕ Answer × List ℕ). OneWritten snapshot ks es xs c before x.0 x.1)
 write_single_one snapshot ks es xs c before = write_one snapshot (lists ks es xs (c.low ∷ []) (c.high ∷ [])) before
 
 -- what is given back and the whole output
-pub join_one : (a b before : List ℕ) → OneAnswer (λ (x : Joined × List ℕ). JoinsAs a b before x.0 x.1)
+pub join_one : (a b before : List ℕ) → OneAnswer (λ (x : Result ℕ Answer × List ℕ). JoinsAs a b before x.0 x.1)
 join_one a b before x y p q = let e = only_join a b before x.0 y.0 x.1 y.1 p q in λ i. (e.0 i, e.1 i)
 
 -- the log lent, the same slice, and the place
@@ -124,7 +126,7 @@ pub lookup_one : (m : List ℕ) (k : ℕ) → Bytes m → OneAnswer (λ (x : Loo
 lookup_one m k b x y p q = only_lookup m k x y b p q
 
 -- the answer and all five numbers
-pub status_one : (m : List ℕ) → Bytes m → OneAnswer (λ (x : Status). StatusIs m x)
+pub status_one : (m : List ℕ) → Bytes m → OneAnswer (λ (x : Result Status Answer). StatusIs m x)
 status_one m b x y p q = only_status m x y b p q
 
 -- answer, looks and the whole pool

@@ -67,15 +67,15 @@ pub joined_or_one_by_one : (m : List ℕ) (A : Arrangement) → Image m A → (a
     → (two : TwoWays m a b j) → JoinedAlike m a b j two
 joined_or_one_by_one m A i a b j bytes-a bytes-b gave few r is zone two =
     let S = state_of A in
-    let g = join_gave a b gave.before gave.given gave.after gave.joins gave.answered in
+    let g = join_gave a b gave.before gave.size gave.after gave.joins in
     let ra = g.first in
     let rb = g.second in
     let rj = joined_of ra rb in
     let va = parsed_valid a bytes-a ra g.first_is in
     let vb = parsed_valid b bytes-b rb g.second_is in
-    let vj = gave_valid a b gave.given gave.after bytes-a bytes-b g in
+    let vj = gave_valid a b gave.size gave.after bytes-a bytes-b g in
     let bytes_j : Bytes j = subst Bytes (sym (gave.stands ∙ g.stands)) (valid_bytes rj vj) in
-    let is_j : parse j ≡ some rj = ap parse gave.stands ∙ gave_parses a b gave.given gave.after bytes-a bytes-b g in
+    let is_j : parse j ≡ some rj = ap parse gave.stands ∙ gave_parses a b gave.size gave.after bytes-a bytes-b g in
     let means : Means m S = record { arrangement = A; image = i; state = refl } in
     let by_j = melded m j two.m_j two.x S rj means bytes_j is_j two.melds_j in
     let by_a = melded m a two.m_a two.y S ra means bytes-a g.first_is two.melds_a in

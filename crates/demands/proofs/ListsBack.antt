@@ -11,6 +11,7 @@ use lib.ListN.{length, take, drop, length-map}
 use lib.Seq.{take-append_seam}
 use lib.Dec.{leb}
 use borrow.Author.Tests.{leb-true, le-leb}
+use Rattle.std.specs.Prelude.{Result, Ok, Err}
 use Rattle.record.specs.declared.answer.Answer.{Answer}
 use Rattle.record.specs.declared.reader.Reading.{Reading}
 use Rattle.record.specs.Answer as Names
@@ -19,7 +20,7 @@ use Rattle.record.specs.Parse.{parse}
 use Rattle.record.specs.Reader.{Lists, low_of, high_of, front, roomy, filled, read_of}
 use Rattle.record.specs.Reader as Reader
 use Rattle.record.proofs.Cases.{by_case}
-use Rattle.writer.specs.declared.Written.{Written}
+use Rattle.record.proofs.Results.{ok_is_no_err}
 use Rattle.writer.specs.Writer.{record_of, lists_of, WriteOutcome, write_outcome, write_of}
 use Rattle.writer.specs.Writer.{Fitting}
 use Rattle.writer.proofs.Names.{record_of_lists, record_of_valid, lists_record_of}
@@ -27,19 +28,17 @@ use Rattle.record.specs.Reader.{reading_of}
 use Rattle.writer.proofs.RoundTrip.{write_read}
 use Rattle.demands.specs.ListsBack.{HasRoom, ReadBack}
 
--- the writer answers 0 only where the lists name a record and the output has room for it
-written_inv : {P : Type 0} (x : Option Rec) (output left : List ℕ) (w : Written) → write_outcome w left ≡ write_of x output → w.answer ≡ Names.committed
+-- the writer gives a size only where the lists name a record and the output has room for it
+written_inv : {P : Type 0} (x : Option Rec) (output left : List ℕ) (size : ℕ) → write_outcome (Ok size) left ≡ write_of x output
     → ((r : Rec) → x ≡ some r → length (bytes_of r) ≤ length output → P) → P
 unfolding write_of
-written_inv none output left w e a k = absurd (omega (arith, number a, number (ap (λ (o : WriteOutcome). o.written.answer) e)))
-  where
-    number : {y z : Answer} → y ≡ z → y.number ≡ z.number
-    number d = ap (λ (y : Answer). y.number) d
-written_inv (some r) output left w e a k =
+written_inv none output left size e k = ok_is_no_err (ap (λ (o : WriteOutcome). o.written) e)
+written_inv (some r) output left size e k =
     by_case (leb (length (bytes_of r)) (length output))
     (λ t. k r refl (leb-true (length (bytes_of r)) (length output) t))
     (λ t.
-    let z : ◌≡◌ {A = ℕ} 0 8 = ap (λ (y : Answer). y.number) (sym a) ∙ ap (λ (o : WriteOutcome). o.written.answer.number) e ∙ simp t in absurd (omega arith))
+    let f : write_outcome (Ok size) left ≡ write_outcome (Err Names.output_short) output = e ∙ simp t in
+    ok_is_no_err (ap (λ (o : WriteOutcome). o.written) f))
 
 -- both tests are true
 and_true : (a b : Bool) → a ≡ true → b ≡ true → (a && b) ≡ true
@@ -62,12 +61,9 @@ front_back : (vs l l' : List ℕ) → l' ≡ front vs l → take (length vs) l' 
 front_back vs l l' e = ap (take (length vs)) e ∙ take-append_seam vs (drop (length vs) l)
 
 -- a record that was read gives its own lists back
-record_back : (r : Rec) (before after : Lists) (q : Reading) → q ≡ reading_of r → after ≡ filled r before → ReadBack r.snapshot (lists_of r) q after
+record_back : (r : Rec) (before after : Lists) (q : Result Reading Answer) → q ≡ Ok (reading_of r) → after ≡ filled r before → ReadBack r.snapshot (lists_of r) q after
 record_back r before after q e d = record {
-  answer = ap (λ (x : Reading). x.answer) e;
-  snapshot_is = ap (λ (x : Reading). x.snapshot) e;
-  points_are = ap (λ (x : Reading). x.points) e ∙ sym (length-map r.points kind_of);
-  scans_are = ap (λ (x : Reading). x.scans) e ∙ sym (length-map r.scans low_of);
+  reading_is = e ∙ (λ i. Ok (record { snapshot = r.snapshot; points = sym (length-map r.points kind_of) i; scans = sym (length-map r.scans low_of) i }));
   kinds = front_back (map kind_of r.points) before.kinds after.kinds (ap (λ (x : Lists). x.kinds) d);
   keys = front_back (map key_of r.points) before.keys after.keys (ap (λ (x : Lists). x.keys) d);
   payloads = front_back (map payload_of r.points) before.payloads after.payloads (ap (λ (x : Lists). x.payloads) d);
@@ -75,17 +71,17 @@ record_back r before after q e d = record {
   highs = front_back (map high_of r.scans) before.highs after.highs (ap (λ (x : Lists). x.highs) d);
 }
 
--- Lists of numbers that fit their types are written with answer 0, and the bytes written, as many as the size says, are read into any lists
--- with room: the reader answers 0 with the snapshot and the counts of what was written, and the lists written stand at the fronts.
+-- Lists of numbers that fit their types are written, with a size, and the bytes written, as many as the size says, are read into any lists
+-- with room: the reader gives the snapshot and the counts of what was written, and the lists written stand at the fronts.
 pub lists_written_read_back : (snapshot : ℕ) (l : Lists) → Fitting snapshot l
-    → (output left : List ℕ) (w : Written) → write_outcome w left ≡ write_of (record_of snapshot l) output → w.answer ≡ Names.committed
-    → (before after : Lists) (q : Reading) → HasRoom l before → Reader.read_outcome q after ≡ read_of (parse (take w.size left)) before
+    → (output left : List ℕ) (size : ℕ) → write_outcome (Ok size) left ≡ write_of (record_of snapshot l) output
+    → (before after : Lists) (q : Result Reading Answer) → HasRoom l before → Reader.read_outcome q after ≡ read_of (parse (take size left)) before
     → ReadBack snapshot l q after
-lists_written_read_back snapshot l fits output left w written answer before after q room reading =
-    written_inv (record_of snapshot l) output left w written answer λ r is long.
+lists_written_read_back snapshot l fits output left size written before after q room reading =
+    written_inv (record_of snapshot l) output left size written λ r is long.
     let v = record_of_valid snapshot l r fits is in
     let (s, own) = lists_record_of snapshot l r is in
     let (x, y) =
-    write_read r v output left w (written ∙ ap (λ (o : Option Rec). write_of o output) (is ∙ sym (record_of_lists r v))) long
+    write_read r v output left (Ok size) (written ∙ ap (λ (o : Option Rec). write_of o output) (is ∙ sym (record_of_lists r v))) long
     before after q reading (room_roomy r before (subst (λ (k : Lists). HasRoom k before) own room)) in
     subst (λ (k : Lists). ReadBack snapshot k q after) (sym own) (subst (λ (n : ℕ). ReadBack n (lists_of r) q after) s (record_back r before after q x y))

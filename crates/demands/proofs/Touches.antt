@@ -13,21 +13,21 @@ use lib.Seq.{get_or-append-add, get_or-drop, get_or-take, take-take, take_at, le
 use lib.Dec.{leb, eqb}
 use borrow.Author.Tests.{leb-true, eqb-true}
 use Rattle.words.specs.Word.{Bytes}
-use Rattle.std.specs.Prelude.{if◌then◌else◌}
+use Rattle.std.specs.Prelude.{if◌then◌else◌, Result, Ok, Err}
 use Rattle.record.specs.declared.answer.Answer.{Answer}
 use Rattle.record.specs.declared.reader.Reading.{Reading}
 use Rattle.record.specs.Answer as Names
 use Rattle.record.specs.Record.{Rec, bytes_of, kind_of, key_of, payload_of}
 use Rattle.record.specs.Parse.{parse}
-use Rattle.record.specs.Reader.{Lists, front, low_of, high_of, roomy, read_of}
+use Rattle.record.specs.Answer.{given}
+use Rattle.record.specs.Reader.{Lists, points_read, scans_read, front, low_of, high_of, roomy, read_of}
 use Rattle.record.specs.Reader as Reader
 use Rattle.record.proofs.Cases.{by_case, and_split}
-use Rattle.writer.specs.declared.Written.{Written}
+use Rattle.record.proofs.Results.{ok_is_no_err}
 use Rattle.writer.specs.Writer.{record_of, write_of}
 use Rattle.writer.specs.Writer as Writer
-use Rattle.joiner.specs.declared.Joined.{Joined}
 use Rattle.joiner.specs.Joined.{joined_if}
-use Rattle.joiner.specs.Joiner.{JoinOutcome, join_outcome, join_refused, joined_to, join_of, JoinsAs}
+use Rattle.joiner.specs.Joiner.{JoinOutcome, join_outcome, joined_to, join_of, JoinsAs}
 use Rattle.record_log.specs.Log.{past_at}
 use Rattle.rules.specs.State.{State}
 use Rattle.rules.specs.Verdict.{Verdict, committed, conflict, too_old, no_room, malformed, ahead, positions_used_up, verdict_answer, verdict, points_of, next, left}
@@ -153,35 +153,35 @@ module _ (m bytes : List ℕ) (lent : Bytes m) (b : Bytes bytes) (m' : List ℕ)
 
 -- WRITE
 
-pub write_touches : (snapshot : ℕ) (l : Lists) (before : List ℕ) (w : Written) (after : List ℕ) → Writer.write_outcome w after ≡ write_of (record_of snapshot l) before → WriteTouches before w after
+pub write_touches : (snapshot : ℕ) (l : Lists) (before : List ℕ) (w : Result ℕ Answer) (after : List ℕ) → Writer.write_outcome w after ≡ write_of (record_of snapshot l) before → WriteTouches before w after
 unfolding write_of
 write_touches snapshot l before w after h = go (record_of snapshot l) h
   where
     answer : (x : Writer.WriteOutcome) → Writer.write_outcome w after ≡ x → (w ≡ x.written) × (after ≡ x.left)
     answer x e = (ap (λ (o : Writer.WriteOutcome). o.written) e, ap (λ (o : Writer.WriteOutcome). o.left) e)
 
-    refusal : (a : Answer) → (w ≡ Writer.write_refused a) × (after ≡ before) → WriteTouches before w after
-    refusal a e = record { refusal = λ _. e.1; commit = within_nothing 0 w.size before after e.1 }
+    refusal : after ≡ before → WriteTouches before w after
+    refusal e = record { refusal = λ _ _. e; commit = within_nothing 0 (given w) before after e }
 
     by_room : (r : Rec) (b : Bool) → leb (length (bytes_of r)) (length before) ≡ b
-        → Writer.write_outcome w after ≡ cond b (Writer.write_outcome (record { answer = Names.committed; size = length (bytes_of r) }) (front (bytes_of r) before)) (Writer.write_outcome (Writer.write_refused Names.output_short) before)
+        → Writer.write_outcome w after ≡ cond b (Writer.write_outcome (Ok (length (bytes_of r))) (front (bytes_of r) before)) (Writer.write_outcome (Err Names.output_short) before)
         → WriteTouches before w after
-    by_room r false t e = refusal Names.output_short (answer _ e)
+    by_room r false t e = refusal (answer _ e).1
     by_room r true t e =
         let (x, y) = answer _ e in
         record {
-          refusal = λ n. absurd (n (ap (λ (o : Written). o.answer) x));
-          commit = subst (λ (s : List ℕ). Within 0 w.size before s) (sym y)
-              (subst (λ (n : ℕ). Within 0 n before (front (bytes_of r) before)) (sym (ap (λ (o : Written). o.size) x)) (within_front (bytes_of r) before (leb-true (length (bytes_of r)) (length before) t)));
+          refusal = λ a n. ok_is_no_err (sym x ∙ n);
+          commit = subst (λ (s : List ℕ). Within 0 (given w) before s) (sym y)
+              (subst (λ (n : ℕ). Within 0 n before (front (bytes_of r) before)) (sym (ap given x)) (within_front (bytes_of r) before (leb-true (length (bytes_of r)) (length before) t)));
         }
 
     go : (o : Option Rec) → Writer.write_outcome w after ≡ write_of o before → WriteTouches before w after
-    go none e = refusal Names.malformed (answer _ e)
+    go none e = refusal (answer _ e).1
     go (some r) e = by_room r (leb (length (bytes_of r)) (length before)) refl e
 
 -- JOIN
 
-pub join_touches : (a b before : List ℕ) (j : Joined) (after : List ℕ) → JoinsAs a b before j after → JoinTouches before j after
+pub join_touches : (a b before : List ℕ) (j : Result ℕ Answer) (after : List ℕ) → JoinsAs a b before j after → JoinTouches before j after
 unfolding join_of
 join_touches a b before j after h = go (joined_if (parse a) (parse b)) h
   where
@@ -189,18 +189,18 @@ join_touches a b before j after h = go (joined_if (parse a) (parse b)) h
     answer x e = (ap (λ (o : JoinOutcome). o.joined) e, ap (λ (o : JoinOutcome). o.left) e)
 
     refusal : after ≡ before → JoinTouches before j after
-    refusal e = record { refusal = λ _. e; commit = within_nothing 0 j.size before after e }
+    refusal e = record { refusal = λ _ _. e; commit = within_nothing 0 (given j) before after e }
 
     by_room : (r : Rec) (b : Bool) → leb (length (bytes_of r)) (length before) ≡ b
-        → join_outcome j after ≡ cond b (join_outcome (joined_to (bytes_of r)) (front (bytes_of r) before)) (join_outcome (join_refused Names.output_short) before)
+        → join_outcome j after ≡ cond b (join_outcome (joined_to (bytes_of r)) (front (bytes_of r) before)) (join_outcome (Err Names.output_short) before)
         → JoinTouches before j after
     by_room r false t e = refusal (answer _ e).1
     by_room r true t e =
         let (x, y) = answer _ e in
         record {
-          refusal = λ n. absurd (n (ap (λ (o : Joined). o.answer) x));
-          commit = subst (λ (s : List ℕ). Within 0 j.size before s) (sym y)
-              (subst (λ (n : ℕ). Within 0 n before (front (bytes_of r) before)) (sym (ap (λ (o : Joined). o.size) x)) (within_front (bytes_of r) before (leb-true (length (bytes_of r)) (length before) t)));
+          refusal = λ a n. ok_is_no_err (sym x ∙ n);
+          commit = subst (λ (s : List ℕ). Within 0 (given j) before s) (sym y)
+              (subst (λ (n : ℕ). Within 0 n before (front (bytes_of r) before)) (sym (ap given x)) (within_front (bytes_of r) before (leb-true (length (bytes_of r)) (length before) t)));
         }
 
     go : (o : Option Rec) → join_outcome j after ≡ join_of o before → JoinTouches before j after
@@ -209,7 +209,7 @@ join_touches a b before j after h = go (joined_if (parse a) (parse b)) h
 
 -- READ
 
-pub read_touches : (bytes : List ℕ) (before : Lists) (r : Reading) (after : Lists) → Reader.read_outcome r after ≡ read_of (parse bytes) before → ReadTouches before r after
+pub read_touches : (bytes : List ℕ) (before : Lists) (r : Result Reading Answer) (after : Lists) → Reader.read_outcome r after ≡ read_of (parse bytes) before → ReadTouches before r after
 unfolding read_of
 read_touches bytes before r after h = go (parse bytes) h
   where
@@ -218,12 +218,12 @@ read_touches bytes before r after h = go (parse bytes) h
 
     refusal : after ≡ before → ReadTouches before r after
     refusal e = record {
-      refusal = λ _. e;
-      kinds = within_nothing 0 r.points before.kinds after.kinds (ap (λ (l : Lists). l.kinds) e);
-      keys = within_nothing 0 r.points before.keys after.keys (ap (λ (l : Lists). l.keys) e);
-      payloads = within_nothing 0 r.points before.payloads after.payloads (ap (λ (l : Lists). l.payloads) e);
-      lows = within_nothing 0 r.scans before.lows after.lows (ap (λ (l : Lists). l.lows) e);
-      highs = within_nothing 0 r.scans before.highs after.highs (ap (λ (l : Lists). l.highs) e);
+      refusal = λ _ _. e;
+      kinds = within_nothing 0 (points_read r) before.kinds after.kinds (ap (λ (l : Lists). l.kinds) e);
+      keys = within_nothing 0 (points_read r) before.keys after.keys (ap (λ (l : Lists). l.keys) e);
+      payloads = within_nothing 0 (points_read r) before.payloads after.payloads (ap (λ (l : Lists). l.payloads) e);
+      lows = within_nothing 0 (scans_read r) before.lows after.lows (ap (λ (l : Lists). l.lows) e);
+      highs = within_nothing 0 (scans_read r) before.highs after.highs (ap (λ (l : Lists). l.highs) e);
     }
 
     -- a list with what a function makes of the points or scans at its front
@@ -233,7 +233,7 @@ read_touches bytes before r after h = go (parse bytes) h
         subst (λ (s : List ℕ). Within 0 k l s) (sym e) (subst (λ (j : ℕ). Within 0 j l (front (map f es) l)) size (within_front (map f es) l (omega (arith, length-map es f))))
 
     by_room : (q : Rec) (b : Bool) → roomy q before ≡ b
-        → Reader.read_outcome r after ≡ cond b (Reader.read_outcome (record { answer = Names.committed; snapshot = q.snapshot; points = length q.points; scans = length q.scans }) (Reader.filled q before)) (Reader.read_outcome (Reader.read_refused Names.output_short) before)
+        → Reader.read_outcome r after ≡ cond b (Reader.read_outcome (Ok (Reader.reading_of q)) (Reader.filled q before)) (Reader.read_outcome (Err Names.output_short) before)
         → ReadTouches before r after
     by_room q false t e = refusal (answer _ e).1
     by_room q true t e =
@@ -243,12 +243,12 @@ read_touches bytes before r after h = go (parse bytes) h
         and_split (leb (length q.points) (length before.payloads)) _ t₂ (λ k₃ t₃.
         and_split (leb (length q.scans) (length before.lows)) _ t₃ (λ k₄ k₅.
         record {
-          refusal = λ n. absurd (n (ap (λ (o : Reading). o.answer) x));
-          kinds = filled_within kind_of q.points before.kinds after.kinds r.points (ap (λ (o : Reading). o.points) x) (leb-true _ _ k₁) (ap (λ (l : Lists). l.kinds) y);
-          keys = filled_within key_of q.points before.keys after.keys r.points (ap (λ (o : Reading). o.points) x) (leb-true _ _ k₂) (ap (λ (l : Lists). l.keys) y);
-          payloads = filled_within payload_of q.points before.payloads after.payloads r.points (ap (λ (o : Reading). o.points) x) (leb-true _ _ k₃) (ap (λ (l : Lists). l.payloads) y);
-          lows = filled_within low_of q.scans before.lows after.lows r.scans (ap (λ (o : Reading). o.scans) x) (leb-true _ _ k₄) (ap (λ (l : Lists). l.lows) y);
-          highs = filled_within high_of q.scans before.highs after.highs r.scans (ap (λ (o : Reading). o.scans) x) (leb-true _ _ k₅) (ap (λ (l : Lists). l.highs) y);
+          refusal = λ a n. ok_is_no_err (sym x ∙ n);
+          kinds = filled_within kind_of q.points before.kinds after.kinds (points_read r) (ap points_read x) (leb-true _ _ k₁) (ap (λ (l : Lists). l.kinds) y);
+          keys = filled_within key_of q.points before.keys after.keys (points_read r) (ap points_read x) (leb-true _ _ k₂) (ap (λ (l : Lists). l.keys) y);
+          payloads = filled_within payload_of q.points before.payloads after.payloads (points_read r) (ap points_read x) (leb-true _ _ k₃) (ap (λ (l : Lists). l.payloads) y);
+          lows = filled_within low_of q.scans before.lows after.lows (scans_read r) (ap scans_read x) (leb-true _ _ k₄) (ap (λ (l : Lists). l.lows) y);
+          highs = filled_within high_of q.scans before.highs after.highs (scans_read r) (ap scans_read x) (leb-true _ _ k₅) (ap (λ (l : Lists). l.highs) y);
         }))))
 
     go : (o : Option Rec) → Reader.read_outcome r after ≡ read_of o before → ReadTouches before r after

@@ -12,6 +12,7 @@ use native.Mathlib.Omega.{arith}
 use lib.ListN.{length, take, length-map}
 use lib.Seq.{length-take-le}
 use Rattle.words.specs.Word.{Bytes}
+use Rattle.std.specs.Prelude.{Result, Ok}
 use Rattle.record.specs.Answer as Names
 use Rattle.record.specs.declared.answer.Answer.{Answer}
 use Rattle.record.specs.Record.{Rec}
@@ -98,16 +99,16 @@ module _ (N Z : ℕ) (log : List ℕ) (lent : Bytes log) (parts : List (List ℕ
       lookup_case m k x h mean.arrangement mean.image ∙ ap (λ (S : State). lookup_of (lookup k S)) mean.state ∙ ap lookup_of (last_write_lem N Z past past_well_formed k)
 
   -- status tells the rules' state after them
-  pub status_on_bytes : (x : Status) → StatusIs m x → x ≡ status_of (after (fresh N Z) (map parse (take q parts)))
-  status_on_bytes x h = let mean = past_means in h.fit mean.arrangement mean.image ∙ ap status_of mean.state
+  pub status_on_bytes : (x : Result Status Answer) → StatusIs m x → x ≡ Ok (status_of (after (fresh N Z) (map parse (take q parts))))
+  status_on_bytes x h = let mean = past_means in h.fit mean.arrangement mean.image ∙ ap (λ (S : State). Ok (status_of S)) mean.state
 
-  -- so 0 and the card's own limits, and as the position how many records it has melded, while positions last
-  pub status_counts : (x : Status) → StatusIs m x → (x.answer ≡ Names.committed) × (x.limit ≡ N) × (x.zone ≡ Z) × (q ≤ last_position → x.position ≡ q)
-  status_counts x h =
-      let e = status_on_bytes x h in
+  -- so no refusal, the card's own limits, and as the position how many records it has melded, while positions last
+  pub status_counts : (r : Result Status Answer) → StatusIs m r → (x : Status) × (r ≡ Ok x) × (x.limit ≡ N) × (x.zone ≡ Z) × (q ≤ last_position → x.position ≡ q)
+  status_counts r h =
       let so_many : length past ≡ q = length-map (take q parts) parse ∙ length-take-le q parts (omega (arith, pool_few N Z log lent parts last w at-q, length-map parts parse)) in (
-        ap (λ (y : Status). y.answer) e,
-        ap (λ (y : Status). y.limit) e ∙ after_N (fresh N Z) past,
-        ap (λ (y : Status). y.zone) e ∙ after_Z (fresh N Z) past,
-        λ few. omega (arith, ap (λ (y : Status). y.position) e, after_p (fresh N Z) past (omega (arith, so_many, few)), so_many),
+        status_of (after (fresh N Z) past),
+        status_on_bytes r h,
+        after_N (fresh N Z) past,
+        after_Z (fresh N Z) past,
+        λ few. omega (arith, after_p (fresh N Z) past (omega (arith, so_many, few)), so_many),
       )

@@ -1,6 +1,6 @@
 -- The calls that a pool may be lent to, one after the other (R20).
 -- Assumes nothing: these are definitions.
-use Rattle.std.specs.Prelude.{ℕ, Bool, List}
+use Rattle.std.specs.Prelude.{ℕ, Bool, List, Result}
 use Rattle.words.specs.Word.{Bytes}
 use Rattle.record.specs.declared.answer.Answer.{Answer}
 use Rattle.pool.specs.Image.{Fit}
@@ -23,7 +23,7 @@ use Rattle.reason.specs.Reason.{Explains}
 pub data Call : List ℕ → List ℕ → Type 0 where
   create : {m m' : List ℕ} (n z : ℕ) (a : Answer) → Created m n z a m' → Call m m'
   fit : {m : List ℕ} (r : Bool) → Decides (Fit m) r → Call m m
-  status : {m : List ℕ} (x : Status) → StatusIs m x → Call m m
+  status : {m : List ℕ} (x : Result Status Answer) → StatusIs m x → Call m m
   lookup : {m : List ℕ} (k : ℕ) (x : Lookup) → LooksUp m k x → Call m m
   meld : {m m' : List ℕ} (bytes : List ℕ) (x : Melded) → Bytes bytes → Melds m bytes m' x → Call m m'
   feed : {m m' : List ℕ} (carry : List ℕ) (carried : ℕ) (part : List ℕ) (over : Bool) (r : Fed) (carry' : List ℕ) → Bytes carry → Bytes part

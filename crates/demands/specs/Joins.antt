@@ -1,23 +1,21 @@
 -- Joined or one by one (R58): what joining gave, the two ways from one pool, and what is said of them.
 -- Assumes nothing: these are definitions.
-use Rattle.std.specs.Prelude.{ℕ, ◌≡◌, ◌⊎◌, List, take}
+use Rattle.std.specs.Prelude.{ℕ, ◌≡◌, ◌⊎◌, List, take, Ok}
 use Rattle.std.proofs.Math.Option.{none}
 use Rattle.record.specs.Answer.{committed, conflict}
-use Rattle.joiner.specs.declared.Joined.{Joined}
 use Rattle.joiner.specs.Joiner.{JoinsAs}
 use Rattle.meld.specs.declared.kept.Lookup.{Lookup}
 use Rattle.meld.specs.declared.melding.Melded.{Melded}
 use Rattle.meld.specs.Lookups.{lookup_told, LooksUp}
 use Rattle.meld.specs.Melds.{Melds}
 
--- R56: joining a and b answered 0, and j is what then stood at the front of the output
+-- R56: joining a and b gave a size, and j is what then stood at the front of the output
 pub record GaveJoined (a b j : List ℕ) : Type 0 where
   pub before : List ℕ
   pub after : List ℕ
-  pub given : Joined
-  pub joins : JoinsAs a b before given after
-  pub answered : given.answer ≡ committed
-  pub stands : j ≡ take given.size after
+  pub size : ℕ
+  pub joins : JoinsAs a b before (Ok size) after
+  pub stands : j ≡ take size after
 
 -- R58: two ways from one pool m: j melded into it, answered x; or a melded into it, answered y, and b behind a, answered z
 pub record TwoWays (m a b j : List ℕ) : Type 0 where

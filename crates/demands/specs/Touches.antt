@@ -1,13 +1,11 @@
 -- Demand 1: which lent bytes can differ at exit, by the answer. Functions that are lent everything by `&` change nothing: `check`, `cut`,
 -- `part`, `fit`, `status`, `lookup`, `in_force`.
 -- Assumes nothing: these are definitions.
-use Rattle.std.specs.Prelude.{ℕ, ◌+◌, ◌≤◌, ◌<◌, ◌≡◌, ◌⊎◌, List, length, get_or}
+use Rattle.std.specs.Prelude.{ℕ, ◌+◌, ◌≤◌, ◌<◌, ◌≡◌, ◌⊎◌, List, length, get_or, Result, Err}
 use Rattle.record.specs.declared.answer.Answer.{Answer}
 use Rattle.record.specs.declared.reader.Reading.{Reading}
-use Rattle.record.specs.Answer.{committed, positions_used_up, unfit_pool, output_short, bad_limits}
-use Rattle.record.specs.Reader.{Lists}
-use Rattle.writer.specs.declared.Written.{Written}
-use Rattle.joiner.specs.declared.Joined.{Joined}
+use Rattle.record.specs.Answer.{given, committed, positions_used_up, unfit_pool, output_short, bad_limits}
+use Rattle.record.specs.Reader.{Lists, points_read, scans_read}
 use Rattle.pages.specs.declared.told.Happened.TheVariants.{Decided, Refused}
 use Rattle.pages.specs.declared.told.Fed.{Fed}
 
@@ -50,20 +48,20 @@ pub record RefreshTouches (original before : List ℕ) (a : Answer) (after : Lis
   pub commit : Within 0 (length original) before after
 
 -- R42: `write`: nothing unless 0; then the front of the output, as long as the record's size
-pub record WriteTouches (before : List ℕ) (w : Written) (after : List ℕ) : Type 0 where
-  pub refusal : (w.answer ≡ committed → ⊥) → after ≡ before
-  pub commit : Within 0 w.size before after
+pub record WriteTouches (before : List ℕ) (w : Result ℕ Answer) (after : List ℕ) : Type 0 where
+  pub refusal : (a : Answer) → w ≡ Err a → after ≡ before
+  pub commit : Within 0 (given w) before after
 
 -- R42: `join`: nothing unless 0; then the front of the output, as long as the joined record
-pub record JoinTouches (before : List ℕ) (j : Joined) (after : List ℕ) : Type 0 where
-  pub refusal : (j.answer ≡ committed → ⊥) → after ≡ before
-  pub commit : Within 0 j.size before after
+pub record JoinTouches (before : List ℕ) (j : Result ℕ Answer) (after : List ℕ) : Type 0 where
+  pub refusal : (a : Answer) → j ≡ Err a → after ≡ before
+  pub commit : Within 0 (given j) before after
 
 -- R42: `read`: nothing unless 0; then the fronts of the lists, as many elements as there are points and scans
-pub record ReadTouches (before : Lists) (r : Reading) (after : Lists) : Type 0 where
-  pub refusal : (r.answer ≡ committed → ⊥) → after ≡ before
-  pub kinds : Within 0 r.points before.kinds after.kinds
-  pub keys : Within 0 r.points before.keys after.keys
-  pub payloads : Within 0 r.points before.payloads after.payloads
-  pub lows : Within 0 r.scans before.lows after.lows
-  pub highs : Within 0 r.scans before.highs after.highs
+pub record ReadTouches (before : Lists) (r : Result Reading Answer) (after : Lists) : Type 0 where
+  pub refusal : (a : Answer) → r ≡ Err a → after ≡ before
+  pub kinds : Within 0 (points_read r) before.kinds after.kinds
+  pub keys : Within 0 (points_read r) before.keys after.keys
+  pub payloads : Within 0 (points_read r) before.payloads after.payloads
+  pub lows : Within 0 (scans_read r) before.lows after.lows
+  pub highs : Within 0 (scans_read r) before.highs after.highs

@@ -1,9 +1,9 @@
 -- The drop at an inner node, once both children had their turn: a side has gone and the node goes too, or the node stays above what is left.
 -- Assumes nothing.
-use Prim.Native.Nat.{ℕ, ◌+◌, ◌^◌, ◌≤◌, ◌<◌}
+use Prim.Native.Nat.{ℕ, suc, ◌+◌, ◌^◌, ◌≤◌, ◌<◌}
 use native.Mathlib.Omega.{arith}
 use mathlib.Core.Path.{◌≡◌, refl, sym, ap, subst, subst⁻¹, subst₂, ◌∙◌}
-use mathlib.Core.Logic.{◌≢◌}
+use mathlib.Core.Logic.{◌⊎◌, inl, inr}
 use mathlib.Core.List.Memᴰ.{append_left as in_left}
 use mathlib.Core.List.Memᴰ.{append_right as in_right}
 use mathlib.Core.List.Memᴰ.{head as here}
@@ -11,26 +11,63 @@ use mathlib.Core.List.Memᴰ.{tail as there}
 use mathlib.Core.List.{List, [], ◌∷◌, Memᴰ as Mem}
 use mathlib.Core.Option.{Option, none, some}
 use lib.ListN.{length}
+use Rattle.std.specs.Prelude as Code
+use Rattle.std.specs.Prelude.{Some, None}
+use Rattle.std.specs.Option.{option_or, option_zip}
+use Rattle.std.proofs.lemmas.Option.{none-some, same_Some}
 use Rattle.nodes.specs.declared.node.Node.{Node}
 use Rattle.nodes.specs.Nodes.{base, put_node}
 use Rattle.nodes.specs.Mended.{mended}
 use Rattle.nodes.specs.Laws.{bytes_node, node_fits}
-use Rattle.pool.specs.Plan.{Plan, node, number, numbers, no_node, free_node}
-use Rattle.pool.specs.Image.{HoldsTree, numbers_or, root_or}
+use Rattle.pool.specs.Plan.{Plan, node, number, numbers, free_node}
+use Rattle.pool.specs.Image.{HoldsTree, numbers_or}
 use Rattle.pool.specs.Times.{times}
 use Rattle.pool.proofs.Numbers.{times_same, times_below, mem_times}
 use Rattle.pool.specs.Frame.{Frame}
 use Rattle.pool.proofs.Frame.{frame_put, frame_widen, frame_then, frame_node, tree_frame, root_in}
 use Rattle.pool.proofs.Words.{mended_holds}
 use Rattle.pool.proofs.Headers.{first_small}
+use Rattle.drop.specs.declared.tombstones.FreeNodes.{FreeNodes}
+use Rattle.drop.specs.declared.tombstones.Left.{Left}
 use Rattle.drop.specs.Drop.{join_plan, join_free, drop_plan, freed}
-use Rattle.drop.specs.Spot.{Spot, Dropped}
+use Rattle.drop.specs.Spot.{root_of, free_of, Spot, Dropped}
 use Rattle.drop.proofs.Plans.{drop_times, drop-length, left_mem}
 use Rattle.drop.proofs.Moves.{put_tree, put_free, push_free}
 use Rattle.drop.proofs.Spots.{tree_below, counts, nodes_in, below_all, apart}
 
-module _ (m : List ℕ) (n i h low : ℕ) (l r : Plan) (F : List ℕ) (q : Spot m n (node i h low l r) F) (limit : ℕ) (m1 : List ℕ) (r1 f1 k1 : ℕ)
-    (d1 : Dropped m limit l F m1 r1 f1 k1) (m2 : List ℕ) (r2 f2 k2 : ℕ) (d2 : Dropped m1 limit r (freed limit l F) m2 r2 f2 k2) where
+-- no root is told where nothing is left
+no_root : (X : Option Plan) → root_of X ≡ None → X ≡ none
+no_root none e = refl
+no_root (some U) e = absurd (none-some (number U) (sym e))
+
+-- else the root of what is left
+a_root : (X : Option Plan) (k : ℕ) → root_of X ≡ Some k → (U : Plan) × (X ≡ some U) × (number U ≡ k)
+a_root none k e = absurd (none-some k e)
+a_root (some U) k e = (U, refl, same_Some (number U) k e)
+
+-- two roots that make no pair: one of them is none, and the other is what is told
+no_pair : (x y : Code.Option ℕ) → option_zip x y ≡ None → ((x ≡ None) × (option_or x y ≡ y)) ⊎ ((y ≡ None) × (option_or x y ≡ x))
+no_pair None y e = inl (refl, refl)
+no_pair (Some a) None e = inr (refl, refl)
+no_pair (Some a) (Some b) e = absurd (none-some (a, b) (sym e))
+
+-- two that do
+a_pair : (x y : Code.Option ℕ) (p : ℕ × ℕ) → option_zip x y ≡ Some p → (x ≡ Some p.0) × (y ≡ Some p.1)
+a_pair None y p e = absurd (none-some p e)
+a_pair (Some a) None p e = absurd (none-some p e)
+a_pair (Some a) (Some b) p e = let q = same_Some (a, b) p e in (ap (λ (z : ℕ × ℕ). Some z.0) q, ap (λ (z : ℕ × ℕ). Some z.1) q)
+
+-- a side beside which nothing is left
+join_none : (i h low : ℕ) (A : Option Plan) → join_plan i h low A none ≡ A
+join_none i h low none = refl
+join_none i h low (some a) = refl
+
+free_none : (i : ℕ) (A : Option Plan) (F : List ℕ) → join_free i A none F ≡ i ∷ F
+free_none i none F = refl
+free_none i (some a) F = refl
+
+module _ (m : List ℕ) (n i h low : ℕ) (l r : Plan) (F : List ℕ) (q : Spot m n (node i h low l r) F) (limit : ℕ) (m1 : List ℕ) (r1 : Left)
+    (d1 : Dropped m limit l F m1 r1) (m2 : List ℕ) (r2 : Left) (d2 : Dropped m1 limit r (freed limit l F) m2 r2) where
   -- each number once, all below n, as at the start
   once_each : (j : ℕ) → times j (i ∷ []) + times j (numbers l) + times j (numbers r) + times j F ≤ 1
   once_each = counts m n i h low l r F q
@@ -75,52 +112,47 @@ module _ (m : List ℕ) (n i h low : ℕ) (l r : Plan) (F : List ℕ) (q : Spot 
   not_right : Mem i (numbers_or (drop_plan limit r)) → ⊥
   not_right s = omega (arith, once_each i, mem_times (left_mem limit r s), times_same i [])
 
+  -- these are they
+  free_is : free_of all_free ≡ r2.free
+  free_is = sym (ap (λ (x : Left). x.free) d2.is)
+
   -- there is room for one more rank
-  k2_small : k2 + 1 ≤ n
-  k2_small = omega (arith, d2.rank_is, drop-length limit r (freed limit l F), drop-length limit l F, nodes_in m n i h low l r F q)
+  count_small : r2.free.count + 1 ≤ n
+  count_small = omega (arith, ap (λ (x : FreeNodes). x.count) free_is, drop-length limit r (freed limit l F), drop-length limit l F, nodes_in m n i h low l r F q)
 
   -- the first free node's number fits a word
-  f2_small : f2 < 2 ^ 32
-  f2_small = subst⁻¹ (λ (j : ℕ). j < 2 ^ 32) d2.first_is
+  first_fits : r2.free.first < 2 ^ 32
+  first_fits = subst (λ (x : FreeNodes). x.first < 2 ^ 32) free_is
       (first_small n all_free q.small (times_below n all_free (λ j g. omega (arith, free_counts j, none_beyond j g))))
 
   -- node i can be freed
-  pub free_asks : (base i + 32 ≤ length m2) × (k2 + 1 < 2 ^ 32)
-  free_asks = (room_after i_below, omega (arith, k2_small, q.small))
+  pub free_asks : (base i + 32 ≤ length m2) × (r2.free.count + 1 < 2 ^ 32)
+  free_asks = (room_after i_below, omega (arith, count_small, q.small))
+
+  -- the pool with node i freed, and the free nodes then
+  abbrev freed_too : List ℕ
+  freed_too = put_node m2 i (free_node r2.free.first (r2.free.count + 1))
+
+  abbrev one_more : FreeNodes
+  one_more = record { first = i; count = r2.free.count + 1 }
 
   -- a side has gone: node i goes too, and what is left is the other side
   gone : (A B : Option Plan) → drop_plan limit l ≡ A → drop_plan limit r ≡ B → (X : Option Plan) → join_plan i h low A B ≡ X → join_free i A B all_free ≡ i ∷ all_free
-      → HoldsTree m2 X → (Mem i (numbers_or X) → ⊥) → Dropped m limit (node i h low l r) F (put_node m2 i (free_node f2 (k2 + 1))) (root_or X) i (k2 + 1)
+      → HoldsTree m2 X → (Mem i (numbers_or X) → ⊥) → Dropped m limit (node i h low l r) F freed_too (record { root = root_of X; free = one_more })
   unfolding drop_plan freed
-  gone A B a b X x g p d = record {
-    holds = rw (a, b, x) (put_tree m2 i (free_node f2 (k2 + 1)) X p d);
-    root_is = rw (a, b, x);
-    free = rw (a, b, g) (push_free m2 i f2 k2 all_free (room_after i_below) d2.first_is d2.rank_is f2_small (omega (arith, k2_small, q.small)) d2.free not_free);
-    first_is = rw (a, b, g);
-    rank_is = rw (a, b, g) (omega (arith, d2.rank_is));
-    frame = frame_then whole (frame_widen (frame_put m2 i (free_node f2 (k2 + 1))) (λ j s. here s));
-    bytes = bytes_node m2 i (free_node f2 (k2 + 1)) d2.bytes;
-  }
+  gone A B a b X x g p d =
+      let more : r2.free.count + 1 ≡ suc (length all_free) = omega (arith, ap (λ (x : FreeNodes). x.count) free_is) in
+      record {
+        holds = rw (a, b, x) (put_tree m2 i (free_node r2.free.first (r2.free.count + 1)) X p d);
+        free = rw (a, b, g) (push_free m2 i r2.free all_free (room_after i_below) free_is first_fits (omega (arith, count_small, q.small)) d2.free not_free);
+        is = rw (a, b, x, g, more);
+        frame = frame_then whole (frame_widen (frame_put m2 i (free_node r2.free.first (r2.free.count + 1))) (λ j s. here s));
+        bytes = bytes_node m2 i (free_node r2.free.first (r2.free.count + 1)) d2.bytes;
+      }
 
   -- the root of what is left is one of the pool's nodes
   root_below : (S : Plan) → ((j : ℕ) → Mem j (numbers S) → j < n) → (U : Plan) → drop_plan limit S ≡ some U → number U < n
   root_below S f U e = f (number U) (left_mem limit S (subst⁻¹ (λ (X : Option Plan). Mem (number U) (numbers_or X)) e (root_in U)))
-
-  -- a side without a root has gone
-  rest_none : (S : Plan) → ((j : ℕ) → Mem j (numbers S) → j < n) → root_or (drop_plan limit S) ≡ no_node → drop_plan limit S ≡ none
-  rest_none S f z = go (drop_plan limit S) refl
-    where
-      go : (X : Option Plan) → drop_plan limit S ≡ X → drop_plan limit S ≡ none
-      go none e = e
-      go (some U) e = absurd (omega (arith, root_below S f U e, sym (ap root_or e) ∙ z, q.small))
-
-  -- any other side has not
-  rest_some : (S : Plan) → root_or (drop_plan limit S) ≢ no_node → (U : Plan) × (drop_plan limit S ≡ some U)
-  rest_some S z = go (drop_plan limit S) refl
-    where
-      go : (X : Option Plan) → drop_plan limit S ≡ X → (U : Plan) × (drop_plan limit S ≡ some U)
-      go none e = absurd (z (ap root_or e))
-      go (some U) e = (U, e)
 
   -- the numbers of the left side are below n
   left_below : (j : ℕ) → Mem j (numbers l) → j < n
@@ -131,23 +163,29 @@ module _ (m : List ℕ) (n i h low : ℕ) (l r : Plan) (F : List ℕ) (q : Spot 
   right_below j s = tree_below q (there (in_right (numbers l) s))
 
   -- the left side has gone: the right side is left
-  pub left_gone : r1 ≡ no_node → Dropped m limit (node i h low l r) F (put_node m2 i (free_node f2 (k2 + 1))) r2 i (k2 + 1)
+  left_gone : r1.root ≡ None → Dropped m limit (node i h low l r) F freed_too (record { root = r2.root; free = one_more })
   left_gone z =
-      let a = rest_none l left_below (sym d1.root_is ∙ z) in
-      rw d2.root_is (gone none (drop_plan limit r) a refl (drop_plan limit r) refl refl d2.holds not_right)
+      let a = no_root (drop_plan limit l) (sym (ap (λ (x : Left). x.root) d1.is) ∙ z) in
+      rw (ap (λ (x : Left). x.root) d2.is) (gone none (drop_plan limit r) a refl (drop_plan limit r) refl refl d2.holds not_right)
 
   -- the right side has gone: the left side is left
-  pub right_gone : r1 ≢ no_node → r2 ≡ no_node → Dropped m limit (node i h low l r) F (put_node m2 i (free_node f2 (k2 + 1))) r1 i (k2 + 1)
-  right_gone y z =
-      let a = rest_some l (λ e. y (d1.root_is ∙ e)) in
-      let b = rest_none r right_below (sym d2.root_is ∙ z) in
-      rw (d1.root_is, a.1)
-      (gone (some a.0) none a.1 b (some a.0) refl refl (subst (λ (X : Option Plan). HoldsTree m2 X) a.1 left_holds) (λ s. not_left (subst⁻¹ (λ (X : Option Plan). Mem i (numbers_or X)) a.1 s)))
+  right_gone : r2.root ≡ None → Dropped m limit (node i h low l r) F freed_too (record { root = r1.root; free = one_more })
+  right_gone z =
+      let b = no_root (drop_plan limit r) (sym (ap (λ (x : Left). x.root) d2.is) ∙ z) in
+      let A = drop_plan limit l in
+      rw (ap (λ (x : Left). x.root) d1.is) (gone A none refl b A (join_none i h low A) (free_none i A all_free) left_holds not_left)
+
+  -- whichever it is
+  pub side_gone : option_zip r1.root r2.root ≡ None → (root : Code.Option ℕ) → root ≡ option_or r1.root r2.root → Dropped m limit (node i h low l r) F freed_too (record { root = root; free = one_more })
+  side_gone z root e = elim (no_pair r1.root r2.root z) [
+    | inl w ↦ rw (e, w.1) (left_gone w.0)
+    | inr w ↦ rw (e, w.1) (right_gone w.0)
+  ]
 
   -- both sides stay
   module _ (U W : Plan) (a : drop_plan limit l ≡ some U) (b : drop_plan limit r ≡ some W) where
     -- node i stands above what is left of them
-    stay : Dropped m limit (node i h low l r) F (mended m2 i h low (number U) (number W)) i f2 k2
+    stay : Dropped m limit (node i h low l r) F (mended m2 i h low (number U) (number W)) (record { root = Some i; free = r2.free })
     unfolding drop_plan freed mended
     stay =
         let fits = node_fits m i q.bytes in
@@ -159,27 +197,29 @@ module _ (m : List ℕ) (n i h low : ℕ) (l r : Plan) (F : List ℕ) (q : Spot 
           holds = rw (a, b) (mended_holds m2 i h low U W (room_after i_below) d2.bytes
               (subst (λ (X : Option Plan). HoldsTree m2 X) a left_holds) (subst (λ (X : Option Plan). HoldsTree m2 X) b d2.holds) hs ls us ws
               (λ s. not_left (subst⁻¹ (λ (X : Option Plan). Mem i (numbers_or X)) a s)) (λ s. not_right (subst⁻¹ (λ (X : Option Plan). Mem i (numbers_or X)) b s)));
-          root_is = rw (a, b);
           free = rw (a, b) (put_free m2 i _ all_free d2.free not_free);
-          first_is = rw (a, b) d2.first_is;
-          rank_is = rw (a, b) d2.rank_is;
+          is = rw (a, b, free_is);
           frame = frame_then whole (frame_widen (frame_put m2 i _) (λ j s. here s));
           bytes = bytes_node m2 i _ d2.bytes;
         }
 
-  -- the three nodes lie in the bytes
-  pub mend_asks : r1 ≢ no_node → r2 ≢ no_node → (base i + 32 ≤ length m2) × (base r1 + 32 ≤ length m2) × (base r2 + 32 ≤ length m2)
-  mend_asks y z =
-      let a = rest_some l (λ e. y (d1.root_is ∙ e)) in
-      let b = rest_some r (λ e. z (d2.root_is ∙ e)) in
-      let u : r1 < n = rw (d1.root_is, a.1) (root_below l left_below a.0 a.1) in
-      let w : r2 < n = rw (d2.root_is, b.1) (root_below r right_below b.0 b.1) in
-      (room_after i_below, room_after u, room_after w)
-
   -- as the code tells it, by the two roots
-  pub both_stay : r1 ≢ no_node → r2 ≢ no_node → Dropped m limit (node i h low l r) F (mended m2 i h low r1 r2) i f2 k2
-  both_stay y z =
-      let a = rest_some l (λ e. y (d1.root_is ∙ e)) in
-      let b = rest_some r (λ e. z (d2.root_is ∙ e)) in
-      subst₂ (λ (x y : ℕ). Dropped m limit (node i h low l r) F (mended m2 i h low x y) i f2 k2)
-      (sym (d1.root_is ∙ ap root_or a.1)) (sym (d2.root_is ∙ ap root_or b.1)) (stay a.0 b.0 a.1 b.1)
+  module _ (left right : ℕ) (z : option_zip r1.root r2.root ≡ Some (left, right)) where
+    left_is : (U : Plan) × (drop_plan limit l ≡ some U) × (number U ≡ left)
+    left_is = a_root (drop_plan limit l) left (sym (ap (λ (x : Left). x.root) d1.is) ∙ (a_pair r1.root r2.root (left, right) z).0)
+
+    right_is : (U : Plan) × (drop_plan limit r ≡ some U) × (number U ≡ right)
+    right_is = a_root (drop_plan limit r) right (sym (ap (λ (x : Left). x.root) d2.is) ∙ (a_pair r1.root r2.root (left, right) z).1)
+
+    -- the three nodes lie in the bytes
+    pub mend_asks : (base i + 32 ≤ length m2) × (base left + 32 ≤ length m2) × (base right + 32 ≤ length m2)
+    mend_asks =
+        let a = left_is in
+        let b = right_is in
+        (room_after i_below, room_after (subst (λ (j : ℕ). j < n) a.2 (root_below l left_below a.0 a.1)), room_after (subst (λ (j : ℕ). j < n) b.2 (root_below r right_below b.0 b.1)))
+
+    pub both_stay : Dropped m limit (node i h low l r) F (mended m2 i h low left right) (record { root = Some i; free = r2.free })
+    both_stay =
+        let a = left_is in
+        let b = right_is in
+        subst₂ (λ (x y : ℕ). Dropped m limit (node i h low l r) F (mended m2 i h low x y) (record { root = Some i; free = r2.free })) a.2 b.2 (stay a.0 b.0 a.1 b.1)

@@ -7,37 +7,42 @@ use mathlib.Core.Logic.{◌≢◌}
 use mathlib.Core.List.{List}
 use mathlib.Core.Option.{some}
 use lib.ListN.{length}
+use Rattle.std.specs.Prelude as Code
+use Rattle.std.specs.Prelude.{Some, None}
+use Rattle.std.specs.Option.{option_or, option_zip}
 use Rattle.nodes.specs.declared.node.Node.{Node}
 use Rattle.nodes.specs.Nodes.{base, node_at, put_node}
 use Rattle.nodes.specs.Mended.{mended}
 use Rattle.rules.specs.Tree.{oldest}
-use Rattle.pool.specs.Plan.{Plan, leaf, node, tree_in, number, root_node, no_node, free_node}
+use Rattle.pool.specs.Plan.{Plan, leaf, node, tree_in, number, root_node, free_node}
 use Rattle.pool.specs.Subtree.{height_of}
-use Rattle.pool.specs.Image.{first_of}
 use Rattle.pool.proofs.Frame.{root_holds, root_in}
 use Rattle.pool.proofs.Words.{root_height, root_oldest}
+use Rattle.drop.specs.declared.tombstones.FreeNodes.{FreeNodes}
+use Rattle.drop.specs.declared.tombstones.Left.{Left}
 use Rattle.drop.specs.Drop.{drop_plan, freed}
-use Rattle.drop.specs.Spot.{FreedNode, Spot, DropReady, Dropped, Drops}
+use Rattle.drop.specs.Spot.{free_of, FreedNode, Spot, DropReady, Dropped, Drops}
 use Rattle.drop.proofs.Olds.{live_stays, tombstone_old}
 use Rattle.drop.proofs.Plans.{drop_none, freed_none}
 use Rattle.drop.proofs.Roots.{as_tombstone, as_live, as_inner}
 use Rattle.drop.proofs.Spots.{tree_room, fits_in, drop_same, drop_leaf, left_spot, right_spot}
-use Rattle.drop.proofs.Dropping.{free_asks, left_gone, right_gone, mend_asks, both_stay}
+use Rattle.drop.proofs.Dropping.{free_asks, side_gone, mend_asks, both_stay}
 
 -- node i lies in the bytes
-pub ready_room : (m : List ℕ) (i f k : ℕ) → DropReady m i f k → base i + 32 ≤ length m
-ready_room m i f k g = subst (λ (j : ℕ). base j + 32 ≤ length m) g.at (tree_room g.spot (root_in g.tree))
+pub ready_room : (m : List ℕ) (i : ℕ) (f : FreeNodes) → DropReady m i f → base i + 32 ≤ length m
+ready_room m i f g = subst (λ (j : ℕ). base j + 32 ≤ length m) g.at (tree_room g.spot (root_in g.tree))
 
 -- and can be freed
-pub ready_asks : (m : List ℕ) (i f k : ℕ) → DropReady m i f k → (base i + 32 ≤ length m) × (k + 1 < 2 ^ 32)
-ready_asks m i f k g = (ready_room m i f k g, omega (arith, g.rank, fits_in g.spot, g.spot.small))
+pub ready_asks : (m : List ℕ) (i : ℕ) (f : FreeNodes) → DropReady m i f → (base i + 32 ≤ length m) × (f.count + 1 < 2 ^ 32)
+ready_asks m i f g = (ready_room m i f g, omega (arith, ap (λ (x : FreeNodes). x.count) g.beside, fits_in g.spot, g.spot.small))
 
 -- node i was freed last
-after_freed : {m m' : List ℕ} {T : Plan} {F : List ℕ} {limit i root f k : ℕ} {m'' : List ℕ} {root' f' k' : ℕ} → FreedNode m' i root f k m'' root' f' k'
-    → Dropped m limit T F (put_node m' i (free_node f (k + 1))) root i (k + 1) → Dropped m limit T F m'' root' f' k'
-after_freed g d = rw (g.bytes_are, g.root_is, g.first_is, g.rank_is) d
+after_freed : {m m' : List ℕ} {T : Plan} {F : List ℕ} {limit i : ℕ} {f : FreeNodes} {m'' : List ℕ} {f' : FreeNodes} {root : Code.Option ℕ} → FreedNode m' i f m'' f'
+    → Dropped m limit T F (put_node m' i (free_node f.first (f.count + 1))) (record { root = root; free = record { first = i; count = f.count + 1 } })
+    → Dropped m limit T F m'' (record { root = root; free = f' })
+after_freed g d = rw (g.bytes_are, g.is) d
 
-module _ (m : List ℕ) (i limit f k : ℕ) (x : Node) (a : x ≡ node_at m i) where
+module _ (m : List ℕ) (i limit : ℕ) (f : FreeNodes) (x : Node) (a : x ≡ node_at m i) where
   -- the node read is the tree's root
   word_of : {n : ℕ} {T : Plan} {F : List ℕ} → number T ≡ i → Spot m n T F → x ≡ root_node T
   word_of {T = T} at q = a ∙ ap (λ (j : ℕ). node_at m j) (sym at) ∙ root_holds T m q.holds
@@ -45,29 +50,29 @@ module _ (m : List ℕ) (i limit f k : ℕ) (x : Node) (a : x ≡ node_at m i) w
   -- EACH RETURN AT A LEAF, OR WHERE NOTHING IS OLD
 
   -- the oldest tombstone is above the limit: all is left as it is
-  pub keep_young_tree : limit < x.oldest → Drops m i limit f k m i f k
-  keep_young_tree h n T F at first rank q =
+  pub keep_young_tree : limit < x.oldest → Drops m i limit f m (record { root = Some i; free = f })
+  keep_young_tree h n T F at beside q =
       let o : limit < oldest (tree_in T) = omega (arith, root_oldest T, ap (λ (y : Node). y.oldest) (word_of at q)) in
-      drop_same limit i f k q at first rank (drop_none limit T o) (freed_none limit T F o)
+      drop_same limit i f q at beside (drop_none limit T o) (freed_none limit T F o)
 
   -- a live key stays
-  pub keep_live : x.kind ≡ 1 → Drops m i limit f k m i f k
+  pub keep_live : x.kind ≡ 1 → Drops m i limit f m (record { root = Some i; free = f })
   unfolding drop_plan freed
-  keep_live z n T F at first rank q =
+  keep_live z n T F at beside q =
       let o = as_live i T at (ap (λ (y : Node). y.kind) (sym (word_of at q)) ∙ z) in
       let p : drop_plan limit T ≡ some T = rw (o.is, live_stays limit o.entry o.payload) in
       let g : freed limit T F ≡ F = rw (o.is, live_stays limit o.entry o.payload) in
-      drop_same limit i f k q at first rank p g
+      drop_same limit i f q at beside p g
 
   -- a tombstone at or below the limit goes
-  pub drop_tombstone : x.oldest ≤ limit → x.kind ≡ 2 → (m' : List ℕ) (r' f' k' : ℕ) → FreedNode m i no_node f k m' r' f' k' → Drops m i limit f k m' r' f' k'
+  pub drop_tombstone : x.oldest ≤ limit → x.kind ≡ 2 → (m' : List ℕ) (f' : FreeNodes) → FreedNode m i f m' f' → Drops m i limit f m' (record { root = None; free = f' })
   unfolding oldest
-  drop_tombstone h z m' r' f' k' g n T F at first rank q =
+  drop_tombstone h z m' f' g n T F at beside q =
       let o = as_tombstone i T at (ap (λ (y : Node). y.kind) (sym (word_of at q)) ∙ z) in
       let w : oldest (tree_in T) ≡ o.entry.position = ap (λ (T : Plan). oldest (tree_in T)) o.is ∙ rw o.payload in
       let v : x.oldest ≡ oldest (tree_in T) = ap (λ (y : Node). y.oldest) (word_of at q) ∙ root_oldest T in
       let s : Spot m n (leaf i o.entry) F = subst (λ (T : Plan). Spot m n T F) o.is q in
-      rw o.is (after_freed g (drop_leaf limit f k s first rank (tombstone_old limit o.entry o.payload (omega arith))))
+      rw o.is (after_freed g (drop_leaf limit f s beside (tombstone_old limit o.entry o.payload (omega arith))))
 
   -- AN INNER NODE
 
@@ -106,67 +111,64 @@ module _ (m : List ℕ) (i limit f k : ℕ) (x : Node) (a : x ≡ node_at m i) w
         omega arith
 
     -- the left child's turn
-    pub asks_left : DropReady m i f k → (t : ℕ) → (node_at m i).height ≡ t → ((node_at m x.left).height < t) × DropReady m x.left f k
+    pub asks_left : DropReady m i f → (t : ℕ) → (node_at m i).height ≡ t → ((node_at m x.left).height < t) × DropReady m x.left f
     asks_left g t u =
         let o = opened g.count g.tree g.list g.at g.spot in
         let s = left_spot m g.count i o.height o.low o.left o.right g.list o.spot in
         let at : number o.left ≡ x.left = ap (λ (y : Node). y.left) (sym o.word) in (
           falls o o.left m x.left t u o.spot.falling.0 at (root_holds o.left m s.holds),
-          record { count = g.count; tree = o.left; list = g.list; at = at; first = g.first; rank = g.rank; spot = s },
+          record { count = g.count; tree = o.left; list = g.list; at = at; beside = g.beside; spot = s },
         )
 
-    module _ (m1 : List ℕ) (r1 f1 k1 : ℕ) (d1 : Drops m x.left limit f k m1 r1 f1 k1) where
+    module _ (m1 : List ℕ) (r1 : Left) (d1 : Drops m x.left limit f m1 r1) where
       -- what the left child's turn left behind
-      one : {n : ℕ} {T : Plan} {F : List ℕ} (o : Opened n T F) → first_of F ≡ f → length F ≡ k → Dropped m limit o.left F m1 r1 f1 k1
-      one {n} {T} {F} o first rank =
-          d1 n o.left F (ap (λ (y : Node). y.left) (sym o.word)) first rank (left_spot m n i o.height o.low o.left o.right F o.spot)
+      one : {n : ℕ} {T : Plan} {F : List ℕ} (o : Opened n T F) → free_of F ≡ f → Dropped m limit o.left F m1 r1
+      one {n} {T} {F} o beside =
+          d1 n o.left F (ap (λ (y : Node). y.left) (sym o.word)) beside (left_spot m n i o.height o.low o.left o.right F o.spot)
 
       -- then the right child's
-      pub asks_right : DropReady m i f k → (t : ℕ) → (node_at m i).height ≡ t → ((node_at m1 x.right).height < t) × DropReady m1 x.right f1 k1
+      pub asks_right : DropReady m i f → (t : ℕ) → (node_at m i).height ≡ t → ((node_at m1 x.right).height < t) × DropReady m1 x.right r1.free
       asks_right g t u =
           let o = opened g.count g.tree g.list g.at g.spot in
-          let d = one o g.first g.rank in
-          let s = right_spot m g.count i o.height o.low o.left o.right g.list o.spot limit m1 r1 f1 k1 d in
+          let d = one o g.beside in
+          let s = right_spot m g.count i o.height o.low o.left o.right g.list o.spot limit m1 r1 d in
           let at : number o.right ≡ x.right = ap (λ (y : Node). y.right) (sym o.word) in (
             falls o o.right m1 x.right t u o.spot.falling.1 at (root_holds o.right m1 s.holds),
-            record { count = g.count; tree = o.right; list = freed limit o.left g.list; at = at; first = sym d.first_is; rank = sym d.rank_is; spot = s },
+            record { count = g.count; tree = o.right; list = freed limit o.left g.list; at = at; beside = sym (ap (λ (y : Left). y.free) d.is); spot = s },
           )
 
-      module _ (m2 : List ℕ) (r2 f2 k2 : ℕ) (d2 : Drops m1 x.right limit f1 k1 m2 r2 f2 k2) where
+      module _ (m2 : List ℕ) (r2 : Left) (d2 : Drops m1 x.right limit r1.free m2 r2) where
         -- what the right child's turn left behind
-        two : {n : ℕ} {T : Plan} {F : List ℕ} (o : Opened n T F) (first : first_of F ≡ f) (rank : length F ≡ k) → Dropped m1 limit o.right (freed limit o.left F) m2 r2 f2 k2
-        two {n} {T} {F} o first rank =
-            let d = one o first rank in
-            d2 n o.right (freed limit o.left F) (ap (λ (y : Node). y.right) (sym o.word)) (sym d.first_is) (sym d.rank_is)
-            (right_spot m n i o.height o.low o.left o.right F o.spot limit m1 r1 f1 k1 d)
+        two : {n : ℕ} {T : Plan} {F : List ℕ} (o : Opened n T F) → free_of F ≡ f → Dropped m1 limit o.right (freed limit o.left F) m2 r2
+        two {n} {T} {F} o beside =
+            let d = one o beside in
+            d2 n o.right (freed limit o.left F) (ap (λ (y : Node). y.right) (sym o.word)) (sym (ap (λ (y : Left). y.free) d.is))
+            (right_spot m n i o.height o.low o.left o.right F o.spot limit m1 r1 d)
 
         -- node i can be freed
-        pub asks_free : DropReady m i f k → (base i + 32 ≤ length m2) × (k2 + 1 < 2 ^ 32)
+        pub asks_free : DropReady m i f → (base i + 32 ≤ length m2) × (r2.free.count + 1 < 2 ^ 32)
         asks_free g =
             let o = opened g.count g.tree g.list g.at g.spot in
-            free_asks m g.count i o.height o.low o.left o.right g.list o.spot limit m1 r1 f1 k1 (one o g.first g.rank) m2 r2 f2 k2 (two o g.first g.rank)
+            free_asks m g.count i o.height o.low o.left o.right g.list o.spot limit m1 r1 (one o g.beside) m2 r2 (two o g.beside)
 
         -- node i can be mended
-        pub asks_mend : DropReady m i f k → r1 ≢ no_node → r2 ≢ no_node → (base i + 32 ≤ length m2) × (base r1 + 32 ≤ length m2) × (base r2 + 32 ≤ length m2)
-        asks_mend g y v =
+        pub asks_mend : DropReady m i f → (left right : ℕ) → option_zip r1.root r2.root ≡ Some (left, right)
+            → (base i + 32 ≤ length m2) × (base left + 32 ≤ length m2) × (base right + 32 ≤ length m2)
+        asks_mend g left right y =
             let o = opened g.count g.tree g.list g.at g.spot in
-            mend_asks m g.count i o.height o.low o.left o.right g.list o.spot limit m1 r1 f1 k1 (one o g.first g.rank) m2 r2 f2 k2 (two o g.first g.rank) y v
+            mend_asks m g.count i o.height o.low o.left o.right g.list o.spot limit m1 r1 (one o g.beside) m2 r2 (two o g.beside) left right y
 
-        -- the left side has gone
-        pub drop_left : r1 ≡ no_node → (m' : List ℕ) (r' f' k' : ℕ) → FreedNode m2 i r2 f2 k2 m' r' f' k' → Drops m i limit f k m' r' f' k'
-        drop_left y m' r' f' k' g n T F at first rank q =
+        -- a side has gone
+        pub drop_side : option_zip r1.root r2.root ≡ None → (root : Code.Option ℕ) → root ≡ option_or r1.root r2.root → (m' : List ℕ) (f' : FreeNodes) → FreedNode m2 i r2.free m' f'
+            → Drops m i limit f m' (record { root = root; free = f' })
+        drop_side y root e m' f' g n T F at beside q =
             let o = opened n T F at q in
-            rw o.is (after_freed g (left_gone m n i o.height o.low o.left o.right F o.spot limit m1 r1 f1 k1 (one o first rank) m2 r2 f2 k2 (two o first rank) y))
-
-        -- the right side has gone
-        pub drop_right : r1 ≢ no_node → r2 ≡ no_node → (m' : List ℕ) (r' f' k' : ℕ) → FreedNode m2 i r1 f2 k2 m' r' f' k' → Drops m i limit f k m' r' f' k'
-        drop_right y v m' r' f' k' g n T F at first rank q =
-            let o = opened n T F at q in
-            rw o.is (after_freed g (right_gone m n i o.height o.low o.left o.right F o.spot limit m1 r1 f1 k1 (one o first rank) m2 r2 f2 k2 (two o first rank) y v))
+            rw o.is (after_freed g (side_gone m n i o.height o.low o.left o.right F o.spot limit m1 r1 (one o beside) m2 r2 (two o beside) y root e))
 
         -- neither side has gone
-        pub drop_none_of_two : r1 ≢ no_node → r2 ≢ no_node → (m' : List ℕ) → m' ≡ mended m2 i x.height x.low r1 r2 → Drops m i limit f k m' i f2 k2
-        drop_none_of_two y v m' e n T F at first rank q =
+        pub drop_none_of_two : (left right : ℕ) → option_zip r1.root r2.root ≡ Some (left, right) → (m' : List ℕ) → m' ≡ mended m2 i x.height x.low left right
+            → Drops m i limit f m' (record { root = Some i; free = r2.free })
+        drop_none_of_two left right y m' e n T F at beside q =
             let o = opened n T F at q in
-            let w : mended m2 i x.height x.low r1 r2 ≡ mended m2 i o.height o.low r1 r2 = ap (λ (y : Node). mended m2 i y.height y.low r1 r2) o.word in
-            rw (o.is, e ∙ w) (both_stay m n i o.height o.low o.left o.right F o.spot limit m1 r1 f1 k1 (one o first rank) m2 r2 f2 k2 (two o first rank) y v)
+            let w : mended m2 i x.height x.low left right ≡ mended m2 i o.height o.low left right = ap (λ (y : Node). mended m2 i y.height y.low left right) o.word in
+            rw (o.is, e ∙ w) (both_stay m n i o.height o.low o.left o.right F o.spot limit m1 r1 (one o beside) m2 r2 (two o beside) left right y)

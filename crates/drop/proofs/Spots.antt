@@ -2,26 +2,29 @@
 -- Assumes nothing.
 use Prim.Native.Nat.{ℕ, suc, ◌+◌, ◌^◌, ◌≤◌, ◌<◌}
 use native.Mathlib.Omega.{arith}
-use mathlib.Core.Path.{◌≡◌, refl, sym, ap, subst, subst⁻¹, ◌∙◌}
+use mathlib.Core.Path.{◌≡◌, refl, ap, subst, subst⁻¹}
 use mathlib.Core.Logic.{◌≢◌}
 use mathlib.Core.Bool.{true}
 use mathlib.Core.List.Memᴰ.{append_left as in_left}
 use mathlib.Core.List.Memᴰ.{head as here}
 use mathlib.Core.List.{List, [], ◌∷◌, ◌++◌, Memᴰ as Mem}
 use mathlib.Core.Option.{Option, some}
+use Rattle.std.specs.Prelude.{Some, None}
 use lib.ListN.{length, length-append}
 use Rattle.nodes.specs.Nodes.{base, put_node}
 use Rattle.nodes.specs.Laws.{bytes_node}
 use Rattle.rules.specs.State.{Entry}
-use Rattle.pool.specs.Plan.{Plan, leaf, node, number, numbers, no_node, free_node}
-use Rattle.pool.specs.Image.{AllBelow, HoldsTree, HoldsFree, first_of, root_or}
+use Rattle.pool.specs.Plan.{Plan, leaf, node, number, numbers, free_node}
+use Rattle.pool.specs.Image.{AllBelow, HoldsTree, HoldsFree, first_of}
 use Rattle.pool.specs.Times.{times}
 use Rattle.pool.proofs.Numbers.{times_append, times_same, distinct_times, times_distinct, below_times, times_below, below_part, mem_times, below_mem}
 use Rattle.pool.proofs.Frame.{frame_none, frame_put, frame_widen, frame_node, holds_frame}
 use Rattle.pool.proofs.Headers.{first_small}
+use Rattle.drop.specs.declared.tombstones.FreeNodes.{FreeNodes}
+use Rattle.drop.specs.declared.tombstones.Left.{Left}
 use Rattle.drop.specs.Old.{old}
 use Rattle.drop.specs.Drop.{drop_plan, freed}
-use Rattle.drop.specs.Spot.{Spot, Dropped}
+use Rattle.drop.specs.Spot.{free_of, Spot, Dropped}
 use Rattle.drop.proofs.Plans.{drop_times, drop-length}
 use Rattle.drop.proofs.Moves.{push_free}
 
@@ -55,14 +58,12 @@ module _ {m : List ℕ} {n : ℕ} {T : Plan} {F : List ℕ} (q : Spot m n T F) w
 -- NOTHING IS OLD
 
 -- all is left as it is
-pub drop_same : {m : List ℕ} {n : ℕ} {T : Plan} {F : List ℕ} (limit i f k : ℕ) → Spot m n T F → number T ≡ i → first_of F ≡ f → length F ≡ k
-    → drop_plan limit T ≡ some T → freed limit T F ≡ F → Dropped m limit T F m i f k
-drop_same {m} {T = T} {F = F} limit i f k q at first rank a b = record {
+pub drop_same : {m : List ℕ} {n : ℕ} {T : Plan} {F : List ℕ} (limit i : ℕ) (f : FreeNodes) → Spot m n T F → number T ≡ i → free_of F ≡ f
+    → drop_plan limit T ≡ some T → freed limit T F ≡ F → Dropped m limit T F m (record { root = Some i; free = f })
+drop_same {m} {T = T} {F = F} limit i f q at beside a b = record {
   holds = subst⁻¹ (λ (X : Option Plan). HoldsTree m X) a q.holds;
-  root_is = sym at ∙ sym (ap root_or a);
   free = subst⁻¹ (λ (G : List ℕ). HoldsFree m G) b q.free;
-  first_is = sym first ∙ sym (ap first_of b);
-  rank_is = sym rank ∙ sym (ap length b);
+  is = rw (a, b, at, beside);
   frame = frame_none m (λ j. Mem j (numbers T));
   bytes = q.bytes;
 }
@@ -70,19 +71,20 @@ drop_same {m} {T = T} {F = F} limit i f k q at first rank a b = record {
 -- AN OLD LEAF
 
 -- it comes to the front of the free nodes, and nothing is left
-pub drop_leaf : {m : List ℕ} {n : ℕ} {i : ℕ} {e : Entry} {F : List ℕ} (limit f k : ℕ) → Spot m n (leaf i e) F → first_of F ≡ f → length F ≡ k
-    → old limit e ≡ true → Dropped m limit (leaf i e) F (put_node m i (free_node f (k + 1))) no_node i (k + 1)
+pub drop_leaf : {m : List ℕ} {n : ℕ} {i : ℕ} {e : Entry} {F : List ℕ} (limit : ℕ) (f : FreeNodes) → Spot m n (leaf i e) F → free_of F ≡ f
+    → old limit e ≡ true → Dropped m limit (leaf i e) F (put_node m i (free_node f.first (f.count + 1))) (record { root = None; free = record { first = i; count = f.count + 1 } })
 unfolding drop_plan freed
-drop_leaf {m} {n} {i} {e} {F} limit f k q first rank o = record {
-  holds = rw o tt;
-  root_is = rw o;
-  free = rw o (push_free m i f k F (tree_room q (here refl)) (sym first) (sym rank) (subst (λ (j : ℕ). j < 2 ^ 32) first (free_small q)) (omega (arith, fits_in q, q.small)) q.free
-      (λ s. omega (arith, once q i, mem_times s, times_same i [])));
-  first_is = rw o;
-  rank_is = rw o (omega arith);
-  frame = frame_widen (frame_put m i (free_node f (k + 1))) (λ j s. here s);
-  bytes = bytes_node m i (free_node f (k + 1)) q.bytes;
-}
+drop_leaf {m} {n} {i} {e} {F} limit f q beside o =
+    let c : length F ≡ f.count = ap (λ (x : FreeNodes). x.count) beside in
+    let more : f.count + 1 ≡ suc (length F) = omega arith in
+    record {
+      holds = rw o tt;
+      free = rw o (push_free m i f F (tree_room q (here refl)) beside (subst (λ (x : FreeNodes). x.first < 2 ^ 32) beside (free_small q)) (omega (arith, fits_in q, q.small)) q.free
+          (λ s. omega (arith, once q i, mem_times s, times_same i [])));
+      is = rw (o, more);
+      frame = frame_widen (frame_put m i (free_node f.first (f.count + 1))) (λ j s. here s);
+      bytes = bytes_node m i (free_node f.first (f.count + 1)) q.bytes;
+    }
 
 -- AN INNER NODE
 
@@ -117,7 +119,7 @@ module _ (m : List ℕ) (n i h low : ℕ) (l r : Plan) (F : List ℕ) (q : Spot 
     fewer = omega (arith, nodes_in, length-append (numbers l) F);
   }
 
-  module _ (limit : ℕ) (m1 : List ℕ) (r1 f1 k1 : ℕ) (d1 : Dropped m limit l F m1 r1 f1 k1) where
+  module _ (limit : ℕ) (m1 : List ℕ) (r1 : Left) (d1 : Dropped m limit l F m1 r1) where
     -- then the right child's
     pub right_spot : Spot m1 n r (freed limit l F)
     right_spot = record {

@@ -2,22 +2,23 @@
 -- Assumes nothing.
 use Prim.Native.Nat.{ℕ, ◌+◌, ◌-◌, ◌*◌, ◌/◌, ◌≤◌, ◌<◌}
 use native.Mathlib.Omega.{arith}
-use mathlib.Core.Path.{◌≡◌, refl, sym, ap, ap₂, subst, ◌∙◌}
+use mathlib.Core.Path.{◌≡◌, refl, sym, ap, subst, ◌∙◌}
 use mathlib.Core.Logic.{◌≢◌}
 use mathlib.Core.List.{List, [], ◌∷◌}
 use mathlib.Core.Option.{Option, none, some}
 use lib.ListN.{length, length-append}
+use Rattle.std.specs.Option.{unwrap_or}
 use Rattle.nodes.specs.declared.node.Node.{Node}
 use Rattle.nodes.specs.declared.header.Header.{Header}
 use Rattle.nodes.specs.Nodes.{base, node_at, header_at, put_header}
 use Rattle.rules.specs.Tree.{entries}
 use Rattle.pool.specs.Plan.{Plan, number, numbers, no_node}
 use Rattle.pool.specs.Image.{Arrangement, Image, Fit, HoldsTree, HoldsFree, first_of, tree_or, root_or, numbers_or, header_of, AllBelow}
-use Rattle.pool.proofs.Numbers.{below_mem}
-use Rattle.pool.proofs.Frame.{frame_front, root_in}
+use Rattle.pool.proofs.Frame.{frame_front}
 use Rattle.pool.proofs.Headers.{keys_beside, free_left, free_below, image_of}
+use Rattle.drop.specs.declared.tombstones.Left.{Left}
 use Rattle.drop.specs.Drop.{drop_plan, drop_tree, freed, freed_tree, drop_in}
-use Rattle.drop.specs.Spot.{Spot, DropReady, Dropped, Drops}
+use Rattle.drop.specs.Spot.{root_of, free_of, Spot, DropReady, Dropped, Drops}
 use Rattle.drop.proofs.Plans.{drop-length}
 use Rattle.drop.proofs.Arranging.{drop_arranged}
 use Rattle.drop.proofs.Fitting.{image_spot}
@@ -36,23 +37,15 @@ first_below n (i ∷ F) b l = b.0
 
 -- THE DROP
 
+-- a root as the header tells it
+root_told : (X : Option Plan) → unwrap_or (root_of X) no_node ≡ root_or X
+root_told none = refl
+root_told (some T) = refl
+
 module _ (m : List ℕ) (limit : ℕ) (h : Header) (e : h ≡ header_at m) where
   -- the header read is the arrangement's
   header_is : (A : Arrangement) → Image m A → h ≡ header_of A
   header_is A g = e ∙ g.header
-
-  -- no tree: nothing to drop
-  pub nothing_kept : h.root ≡ no_node → (A : Arrangement) → Image m A → Image m (drop_in limit A)
-  nothing_kept z A g = subst (λ (B : Arrangement). Image m B) (sym (go A.tree refl)) g
-    where
-      arrange : Option Plan → List ℕ → Arrangement
-      arrange X F = record { N = A.N; Z = A.Z; p = A.p; tree = X; free = F }
-
-      go : (X : Option Plan) → A.tree ≡ X → drop_in limit A ≡ A
-      go none q = ap₂ arrange (ap (drop_tree limit) q ∙ sym q) (ap (λ (X : Option Plan). freed_tree limit X A.free) q)
-      go (some T) q =
-          let s = image_spot m A T g q in
-          absurd (omega (arith, below_mem s.below (mathlib.Core.List.Memᴰ.append_left A.free (root_in T)), s.small, sym (ap root_or q) ∙ sym (ap (λ (x : Header). x.root) (header_is A g)) ∙ z))
 
   -- the first free node lies in the bytes
   pub free_room : Fit m → base h.free + 32 ≤ length m
@@ -68,8 +61,7 @@ module _ (m : List ℕ) (limit : ℕ) (h : Header) (e : h ≡ header_at m) where
       pub plan : Plan
       pub is : A.tree ≡ some plan
       pub at : number plan ≡ h.root
-      pub first : first_of A.free ≡ h.free
-      pub rank : length A.free ≡ x.newest
+      pub beside : free_of A.free ≡ record { first = h.free; count = x.newest }
       pub spot : Spot m (2 * A.N) plan A.free
 
     -- every arrangement of the bytes has such a tree
@@ -79,6 +71,9 @@ module _ (m : List ℕ) (limit : ℕ) (h : Header) (e : h ≡ header_at m) where
         f : h.free ≡ first_of A.free
         f = ap (λ (x : Header). x.free) (header_is A g)
 
+        rank : length A.free ≡ x.newest
+        rank = sym (first_rank m A.free g.free (free_left A g.arranged)) ∙ ap (λ (j : ℕ). (node_at m j).newest) (sym f) ∙ ap (λ (y : Node). y.newest) (sym a)
+
         go : (X : Option Plan) → A.tree ≡ X → Kept A
         go none q = absurd (z (ap (λ (x : Header). x.root) (header_is A g) ∙ ap root_or q))
         go (some T) q =
@@ -86,40 +81,39 @@ module _ (m : List ℕ) (limit : ℕ) (h : Header) (e : h ≡ header_at m) where
               plan = T;
               is = q;
               at = sym (ap root_or q) ∙ sym (ap (λ (x : Header). x.root) (header_is A g));
-              first = sym f;
-              rank = sym (first_rank m A.free g.free (free_left A g.arranged)) ∙ ap (λ (j : ℕ). (node_at m j).newest) (sym f) ∙ ap (λ (y : Node). y.newest) (sym a);
+              beside = λ t. record { first = sym f t; count = rank t };
               spot = image_spot m A T g q;
             }
 
     -- so the recursion can start
-    pub ready : Fit m → DropReady m h.root h.free x.newest
+    pub ready : Fit m → DropReady m h.root (record { first = h.free; count = x.newest })
     ready g =
         let o = kept g.arrangement g.image in
-        record { count = 2 * g.arrangement.N; tree = o.plan; list = g.arrangement.free; at = o.at; first = o.first; rank = o.rank; spot = o.spot }
+        record { count = 2 * g.arrangement.N; tree = o.plan; list = g.arrangement.free; at = o.at; beside = o.beside; spot = o.spot }
 
-    module _ (m1 : List ℕ) (r1 f1 k1 : ℕ) (d : Drops m h.root limit h.free x.newest m1 r1 f1 k1) where
+    module _ (m1 : List ℕ) (r : Left) (d : Drops m h.root limit (record { first = h.free; count = x.newest }) m1 r) where
       -- what it left behind
-      dropped : (A : Arrangement) (o : Kept A) → Dropped m limit o.plan A.free m1 r1 f1 k1
-      dropped A o = d (2 * A.N) o.plan A.free o.at o.first o.rank o.spot
+      dropped : (A : Arrangement) (o : Kept A) → Dropped m limit o.plan A.free m1 r
+      dropped A o = d (2 * A.N) o.plan A.free o.at o.beside o.spot
 
       -- the nodes that are left and the free ones are all nodes
-      rank_all : (A : Arrangement) → Image m A → (o : Kept A) → length (numbers_or (drop_plan limit o.plan)) + k1 ≡ 2 * A.N
+      rank_all : (A : Arrangement) → Image m A → (o : Kept A) → length (numbers_or (drop_plan limit o.plan)) + r.free.count ≡ 2 * A.N
       rank_all A g o =
           let s : length (numbers_or A.tree) ≡ length (numbers o.plan) = ap (λ (X : Option Plan). length (numbers_or X)) o.is in
-          omega (arith, (dropped A o).rank_is, drop-length limit o.plan A.free, length-append (numbers_or A.tree) A.free, g.arranged.all)
+          omega (arith, ap (λ (y : Left). y.free.count) (dropped A o).is, drop-length limit o.plan A.free, length-append (numbers_or A.tree) A.free, g.arranged.all)
 
       -- the number of keys can be told
-      pub keys_asks : Fit m → (h.limit ≤ 65536) × (k1 ≤ 2 * h.limit)
+      pub keys_asks : Fit m → (h.limit ≤ 65536) × (r.free.count ≤ 2 * h.limit)
       keys_asks g =
           let A = g.arrangement in
           let n : h.limit ≡ A.N = ap (λ (x : Header). x.limit) (header_is A g.image) in
           (omega (arith, g.image.arranged.lawful.limit_N), omega (arith, rank_all A g.image (kept A g.image)))
 
       -- the header that the code writes is the arrangement's
-      module _ (c : ℕ) (b : c ≡ (2 * h.limit + 1 - k1) / 2) where
+      module _ (c : ℕ) (b : c ≡ (2 * h.limit + 1 - r.free.count) / 2) (root : ℕ) (ro : root ≡ unwrap_or r.root no_node) where
         -- its words, one by one
         new_header_lem : (A : Arrangement) → Image m A
-            → record { mark = h.mark; limit = h.limit; zone = h.zone; position = h.position; kept = c; root = r1; free = f1 } ≡ header_of (drop_in limit A)
+            → record { mark = h.mark; limit = h.limit; zone = h.zone; position = h.position; kept = c; root = root; free = r.free.first } ≡ header_of (drop_in limit A)
         new_header_lem A g =
             let o = kept A g in
             let u = dropped A o in
@@ -128,13 +122,13 @@ module _ (m : List ℕ) (limit : ℕ) (h : Header) (e : h ≡ header_at m) where
             let left : drop_tree limit A.tree ≡ drop_plan limit o.plan = ap (drop_tree limit) o.is in
             let free : freed_tree limit A.tree A.free ≡ freed limit o.plan A.free = ap (λ (X : Option Plan). freed_tree limit X A.free) o.is in
             let k : c ≡ length (entries (tree_or (drop_tree limit A.tree))) =
-            b ∙ ap (λ (N : ℕ). (2 * N + 1 - k1) / 2) n ∙ keys_beside (drop_plan limit o.plan) A.N k1 (rank_all A g o) ∙ ap (λ (X : Option Plan). length (entries (tree_or X))) (sym left) in
-            let r : r1 ≡ root_or (drop_tree limit A.tree) = u.root_is ∙ ap root_or (sym left) in
-            let f : f1 ≡ first_of (freed_tree limit A.tree A.free) = u.first_is ∙ ap first_of (sym free) in
-            rw (ap (λ (x : Header). x.mark) hd, n, ap (λ (x : Header). x.zone) hd, ap (λ (x : Header). x.position) hd, k, r, f)
+            b ∙ ap (λ (N : ℕ). (2 * N + 1 - r.free.count) / 2) n ∙ keys_beside (drop_plan limit o.plan) A.N r.free.count (rank_all A g o) ∙ ap (λ (X : Option Plan). length (entries (tree_or X))) (sym left) in
+            let t : root ≡ root_or (drop_tree limit A.tree) = ro ∙ ap (λ (y : Left). unwrap_or y.root no_node) u.is ∙ root_told (drop_plan limit o.plan) ∙ ap root_or (sym left) in
+            let f : r.free.first ≡ first_of (freed_tree limit A.tree A.free) = ap (λ (y : Left). y.free.first) u.is ∙ ap first_of (sym free) in
+            rw (ap (λ (x : Header). x.mark) hd, n, ap (λ (x : Header). x.zone) hd, ap (λ (x : Header). x.position) hd, k, t, f)
 
         -- the bytes are the image of the arrangement without its old tombstones
-        pub drop_whole : (m2 : List ℕ) → m2 ≡ put_header m1 (record { mark = h.mark; limit = h.limit; zone = h.zone; position = h.position; kept = c; root = r1; free = f1 })
+        pub drop_whole : (m2 : List ℕ) → m2 ≡ put_header m1 (record { mark = h.mark; limit = h.limit; zone = h.zone; position = h.position; kept = c; root = root; free = r.free.first })
             → (A : Arrangement) → Image m A → Image m2 (drop_in limit A)
         drop_whole m2 w A g =
             let o = kept A g in

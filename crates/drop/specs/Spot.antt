@@ -1,6 +1,8 @@
 -- What the recursions over a tree in the bytes start from, and what they leave behind.
 -- Assumes nothing: these are definitions.
-use Rattle.std.specs.Prelude.{ℕ, ◌+◌, ◌≤◌, ◌<◌, ◌≡◌, length}
+use Rattle.std.specs.Prelude as Code
+use Rattle.std.specs.Prelude.{ℕ, ◌+◌, ◌≤◌, ◌<◌, ◌≡◌, length, Some, None}
+use Rattle.std.proofs.Math.Option.{Option, none, some}
 use mathlib.Core.List.{List, ◌++◌, Memᴰ as Mem}
 use Rattle.words.specs.Word.{Bytes}
 use Rattle.nodes.specs.Nodes.{base, put_node}
@@ -8,8 +10,10 @@ use Rattle.rules.specs.Tree.{Tree, empty, entries}
 use Rattle.rules.specs.Lists.{keep}
 use Rattle.pool.specs.Plan.{Plan, tree_in, number, numbers, free_node}
 use Rattle.pool.specs.Subtree.{height_of}
-use Rattle.pool.specs.Image.{Distinct, AllBelow, Holds, HoldsTree, HoldsFree, first_of, root_or}
+use Rattle.pool.specs.Image.{Distinct, AllBelow, Holds, HoldsTree, HoldsFree, first_of}
 use Rattle.pool.specs.Frame.{Frame}
+use Rattle.drop.specs.declared.tombstones.FreeNodes.{FreeNodes}
+use Rattle.drop.specs.declared.tombstones.Left.{Left}
 use Rattle.drop.specs.Old.{old}
 use Rattle.drop.specs.Drop.{drop_plan, freed}
 
@@ -45,12 +49,19 @@ pub record UpTo (most k r : ℕ) : Type 0 where
 abbrev pub Counted : List ℕ → ℕ → ℕ → ℕ → ℕ → Type 0
 Counted m i limit most r = (n : ℕ) (T : Plan) → number T ≡ i → StandsBelow m n T → UpTo most (length (keep (old limit) (entries (tree_in T)))) r
 
--- node i has come to the front of the free nodes, of which f was the first and which were k in number
-pub record FreedNode (m : List ℕ) (i root f k : ℕ) (m' : List ℕ) (root' f' k' : ℕ) : Type 0 where
-  pub bytes_are : m' ≡ put_node m i (free_node f (k + 1))
-  pub root_is : root' ≡ root
-  pub first_is : f' ≡ i
-  pub rank_is : k' ≡ k + 1
+-- the number of a tree's root, if there is a tree
+abbrev pub root_of : Option Plan → Code.Option ℕ
+root_of none = None
+root_of (some T) = Some (number T)
+
+-- the free nodes as the functions hand them on
+abbrev pub free_of : List ℕ → FreeNodes
+free_of F = record { first = first_of F; count = length F }
+
+-- node i has come to the front of the free nodes
+pub record FreedNode (m : List ℕ) (i : ℕ) (f : FreeNodes) (m' : List ℕ) (f' : FreeNodes) : Type 0 where
+  pub bytes_are : m' ≡ put_node m i (free_node f.first (f.count + 1))
+  pub is : f' ≡ record { first = i; count = f.count + 1 }
 
 -- the bytes hold a tree and free nodes, apart from each other
 pub record Spot (m : List ℕ) (n : ℕ) (T : Plan) (F : List ℕ) : Type 0 where
@@ -64,27 +75,23 @@ pub record Spot (m : List ℕ) (n : ℕ) (T : Plan) (F : List ℕ) : Type 0 wher
   pub distinct : Distinct (numbers T ++ F)
   pub fewer : length (numbers T ++ F) ≤ n
 
--- some tree stands at node i, beside free nodes of which node f is the first and which are k in number
-pub record DropReady (m : List ℕ) (i f k : ℕ) : Type 0 where
+-- some tree stands at node i, beside the free nodes f
+pub record DropReady (m : List ℕ) (i : ℕ) (f : FreeNodes) : Type 0 where
   pub count : ℕ
   pub tree : Plan
   pub list : List ℕ
   pub at : number tree ≡ i
-  pub first : first_of list ≡ f
-  pub rank : length list ≡ k
+  pub beside : free_of list ≡ f
   pub spot : Spot m count tree list
 
--- what is left of the tree, with the root's number, the first free node and how many there are
-pub record Dropped (m : List ℕ) (limit : ℕ) (T : Plan) (F : List ℕ) (m' : List ℕ) (root f k : ℕ) : Type 0 where
+-- what is left of the tree, told by its root and the free nodes then
+pub record Dropped (m : List ℕ) (limit : ℕ) (T : Plan) (F : List ℕ) (m' : List ℕ) (r : Left) : Type 0 where
   pub holds : HoldsTree m' (drop_plan limit T)
-  pub root_is : root ≡ root_or (drop_plan limit T)
   pub free : HoldsFree m' (freed limit T F)
-  pub first_is : f ≡ first_of (freed limit T F)
-  pub rank_is : k ≡ length (freed limit T F)
+  pub is : r ≡ record { root = root_of (drop_plan limit T); free = free_of (freed limit T F) }
   pub frame : Frame m m' (λ j. Mem j (numbers T))
   pub bytes : Bytes m'
 
 -- so for whatever tree stands at node i, and whatever free nodes
-abbrev pub Drops : List ℕ → ℕ → ℕ → ℕ → ℕ → List ℕ → ℕ → ℕ → ℕ → Type 0
-Drops m i limit f k m' root f' k' =
-    (n : ℕ) (T : Plan) (F : List ℕ) → number T ≡ i → first_of F ≡ f → length F ≡ k → Spot m n T F → Dropped m limit T F m' root f' k'
+abbrev pub Drops : List ℕ → ℕ → ℕ → FreeNodes → List ℕ → Left → Type 0
+Drops m i limit f m' r = (n : ℕ) (T : Plan) (F : List ℕ) → number T ≡ i → free_of F ≡ f → Spot m n T F → Dropped m limit T F m' r

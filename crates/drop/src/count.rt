@@ -14,14 +14,12 @@ fn count_below(pool: &[u8], i: u32, limit: u32, most: u32) -> u32
     ensures { Counted pool.now i limit most result }
 {
     let n = read_node(pool, i);
-    if limit < n.oldest {
+    // The kind is a word of the layout: 1 in a live leaf, 2 in a tombstone.
+    if limit < n.oldest || n.kind == 1 {
         return 0;
     }
     if n.kind == 2 {
         return 1;
-    }
-    if n.kind == 1 {
-        return 0;
     }
     let a = count_below(pool, n.left, limit, most);
     if most <= a {

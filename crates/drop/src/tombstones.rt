@@ -8,30 +8,33 @@ ghost use Rattle.drop.specs.Spot.{FreedNode, DropReady, Drops};
 
 use nodes::{FREE, Header, NO_NODE, Node, mend, read_header, read_node, write_header, write_node};
 
-// What is left of a tree, and the free nodes then.
+// The free nodes: the first one's number, and how many there are.
 #[derive(Clone, Copy)]
-struct Left {
-    // The root's number, NO_NODE if nothing is left.
-    root: u32,
-    // The first free node.
-    free: u32,
-    // How many free nodes there are.
-    rank: u32,
+pub struct FreeNodes {
+    pub first: u32,
+    pub count: u32,
 }
 
-// Node i comes to the front of the free nodes; root is what is left of the tree.
-fn free_node(pool: &mut [u8], i: u32, root: u32, free: u32, rank: u32) -> Left
-    requires { (base i + 32 ≤ length pool.old) × (rank + 1 < 2 ^ 32) }
-    ensures { FreedNode pool.old i root free rank pool.new result.root result.free result.rank }
+// What is left of a tree: its root's number, none if nothing is left; and the free nodes then.
+#[derive(Clone, Copy)]
+pub struct Left {
+    pub root: Option<u32>,
+    pub free: FreeNodes,
+}
+
+// Node i comes to the front of the free nodes.
+fn free_node(pool: &mut [u8], i: u32, free: FreeNodes) -> FreeNodes
+    requires { (base i + 32 ≤ length pool.old) × (free.count + 1 < 2 ^ 32) }
+    ensures { FreedNode pool.old i free pool.new result }
 {
-    let more = rank + 1;
+    let count = free.count + 1;
     write_node(
         pool,
         i,
         Node {
             height: FREE,
-            low: free,
-            newest: more,
+            low: free.first,
+            newest: count,
             oldest: 0,
             left: 0,
             right: 0,
@@ -39,49 +42,40 @@ fn free_node(pool: &mut [u8], i: u32, root: u32, free: u32, rank: u32) -> Left
             spare: 0,
         },
     );
-    Left {
-        root: root,
-        free: i,
-        rank: more,
-    }
+    FreeNodes { first: i, count }
 }
 
 // Drops the old tombstones of the tree at node i.
-fn drop_below(pool: &mut [u8], i: u32, limit: u32, free: u32, rank: u32) -> Left
-    requires { DropReady pool.old i free rank }
-    ensures { Drops pool.old i limit free rank pool.new result.root result.free result.rank }
+fn drop_below(pool: &mut [u8], i: u32, limit: u32, free: FreeNodes) -> Left
+    requires { DropReady pool.old i free }
+    ensures { Drops pool.old i limit free pool.new result }
 {
     let n = read_node(pool, i);
-    if limit < n.oldest {
+    // The kind is a word of the layout: 1 in a live leaf, 2 in a tombstone.
+    if limit < n.oldest || n.kind == 1 {
         return Left {
-            root: i,
-            free: free,
-            rank: rank,
-        };
-    }
-    if n.kind == 1 {
-        return Left {
-            root: i,
-            free: free,
-            rank: rank,
+            root: Some(i),
+            free,
         };
     }
     if n.kind == 2 {
-        return free_node(pool, i, NO_NODE, free, rank);
+        return Left {
+            root: None,
+            free: free_node(pool, i, free),
+        };
     }
-    let a = drop_below(pool, n.left, limit, free, rank);
-    let b = drop_below(pool, n.right, limit, a.free, a.rank);
-    if a.root == NO_NODE {
-        return free_node(pool, i, b.root, b.free, b.rank);
-    }
-    if b.root == NO_NODE {
-        return free_node(pool, i, a.root, b.free, b.rank);
-    }
-    mend(pool, i, n.height, n.low, a.root, b.root);
+    let a = drop_below(pool, n.left, limit, free);
+    let b = drop_below(pool, n.right, limit, a.free);
+    let Some((left, right)) = a.root.zip(b.root) else {
+        return Left {
+            root: a.root.or(b.root),
+            free: free_node(pool, i, b.free),
+        };
+    };
+    mend(pool, i, n.height, n.low, left, right);
     Left {
-        root: i,
+        root: Some(i),
         free: b.free,
-        rank: b.rank,
     }
 }
 
@@ -103,17 +97,18 @@ pub fn drop_old(pool: &mut [u8], limit: u32)
         return;
     }
     let first = read_node(pool, h.free);
-    let a = drop_below(pool, h.root, limit, h.free, first.newest);
+    let free = FreeNodes {
+        first: h.free,
+        count: first.newest,
+    };
+    let after = drop_below(pool, h.root, limit, free);
     write_header(
         pool,
         Header {
-            mark: h.mark,
-            limit: h.limit,
-            zone: h.zone,
-            position: h.position,
-            kept: keys_beside(h.limit, a.rank),
-            root: a.root,
-            free: a.free,
+            kept: keys_beside(h.limit, after.free.count),
+            root: after.root.unwrap_or(NO_NODE),
+            free: after.free.first,
+            ..h
         },
     );
 }

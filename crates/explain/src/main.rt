@@ -10,10 +10,9 @@ ghost use Rattle.std.specs.Prelude.{◌≤◌, ◌<◌, ◌^◌, length};
 ghost use Rattle.lines.specs.Opening.{size_for};
 ghost use Rattle.explain.specs.Program.{largest_n, ProgramAsks};
 
-use arguments::{ARGUMENT, Question, argument, asked, position_in, say_usage};
-use asking::{Told, ask, tell};
+use arguments::{ARGUMENT, About, Question, argument, asked};
+use asking::{Told, Unread, ask, tell};
 use lines::Output;
-use reading::{load, open_named};
 use record::limits::MAX_SIZE;
 use sentences::print_told;
 use std::env::Env;
@@ -30,105 +29,102 @@ const POOL: usize = 4194369;
 // The bytes of the largest record and one more.
 const RECORD: usize = 13836;
 
+// What the program runs with: the system, where the answer goes, and where what is wrong with the question goes.
+struct Program<'a, R, P, E> {
+    rt: &'a R,
+    out: Output<P>,
+    complaints: Output<E>,
+}
+
 // Asks for the record that so many records stand before, with bytes for a pool that are enough for the largest N.
-fn ask_log<R: Read>(log: &mut R, pool: &mut [u8], window: &mut [u8], before: u32) -> Told
+fn ask_log<R: Read>(
+    log: &mut R,
+    pool: &mut [u8],
+    window: &mut [u8],
+    before: u32,
+) -> Result<Told, Unread>
     requires { size_for largest_n ≤ length pool.old }
     ensures { ProgramAsks before pool.old window.old pool.new window.new result }
 {
     ask(log, pool, window, MOST_KEYS, before)
 }
 
-// Explains the record at a position of a log, which these arguments give.
-fn explain_log<R: Env + Files, P: Print, E: Print>(
-    rt: &R,
-    out: &mut Output<P>,
-    complaints: &mut Output<E>,
-    pool: &mut [u8],
-    file: usize,
-    place: usize,
-    numbers: bool,
-)
-    requires { size_for largest_n ≤ length pool.old }
-{
-    let position = position_in(rt, complaints, place);
-    if position == 0 {
-        return;
+impl<R: Env + Files, P: Print, E: Print> Program<'_, R, P, E> {
+    // Explains the record at a position of a log, which these arguments give. The bound on the pool is asked for here, by `ask_log` and by `answer`
+    // alone: a type of its own around the bytes lent would be no shorter.
+    fn explain_log(&mut self, pool: &mut [u8], file: usize, place: usize, in_numbers: bool)
+        requires { size_for largest_n ≤ length pool.old }
+    {
+        let Some(before) = self.before_position(place) else {
+            return;
+        };
+        let mut name = [0u8; ARGUMENT];
+        let name = argument(self.rt, file, &mut name).unwrap_or(b"");
+        let Some(mut log) = self.open_named(name) else {
+            return;
+        };
+        let mut window = [0u8; MAX_SIZE];
+        match ask_log(&mut log, pool, &mut window, before) {
+            Ok(told) => self.print(told, record_log::part(&window, 0), in_numbers),
+            Err(Unread) => log.say_failure(&mut self.complaints, name),
+        }
     }
-    let mut name = [0u8; ARGUMENT];
-    let n = argument(rt, file, &mut name);
-    let Some(mut log) = open_named(rt, complaints, &name[..n]) else {
-        return;
-    };
-    let mut window = [0u8; MAX_SIZE];
-    let told = ask_log(&mut log, pool, &mut window, position - 1);
-    if !print_told(out, complaints, told, record_log::part(&window, 0), numbers) {
-        log.say_failure(complaints, &name[..n]);
+
+    // Explains a record's bytes to a pool's, both in the files that these arguments name, and read into the bytes lent.
+    fn explain_pool(
+        &mut self,
+        pool: &mut [u8],
+        bytes: &mut [u8],
+        file: usize,
+        other: usize,
+        in_numbers: bool,
+    ) {
+        let Some(pool) = self.load(file, pool) else {
+            return;
+        };
+        let Some(bytes) = self.load(other, bytes) else {
+            return;
+        };
+        self.print(tell(pool, bytes), bytes, in_numbers);
     }
-}
 
-// Explains a record's bytes to a pool's, both in the files that these arguments name, and read into the bytes lent.
-fn explain_pool<R: Env + Files, P: Print, E: Print>(
-    rt: &R,
-    out: &mut Output<P>,
-    complaints: &mut Output<E>,
-    pool: &mut [u8],
-    bytes: &mut [u8],
-    file: usize,
-    other: usize,
-    numbers: bool,
-) {
-    let Some(held) = load(rt, complaints, file, pool) else {
-        return;
-    };
-    let Some(size) = load(rt, complaints, other, bytes) else {
-        return;
-    };
-    let told = tell(&pool[..held], &bytes[..size]);
-    print_told(out, complaints, told, &bytes[..size], numbers);
-}
-
-// Answers what the arguments ask.
-fn answer<R: Env + Files, P: Print, E: Print>(
-    rt: &R,
-    out: &mut Output<P>,
-    complaints: &mut Output<E>,
-    pool: &mut [u8],
-)
-    requires { size_for largest_n ≤ length pool.old }
-{
-    let mut bytes = [0u8; RECORD];
-    match asked(rt) {
-        Question::Wrong => say_usage(complaints),
-        Question::Log {
-            log,
-            position,
-            numbers,
-        } => explain_log(rt, out, complaints, pool, log, position, numbers),
-        Question::Pool {
-            pool: file,
-            record,
-            numbers,
-        } => explain_pool(rt, out, complaints, pool, &mut bytes, file, record, numbers),
+    // Prints what was told of a record's bytes.
+    fn print(&mut self, told: Told, bytes: &[u8], in_numbers: bool) {
+        print_told(&mut self.out, &mut self.complaints, told, bytes, in_numbers);
     }
-}
 
-// Answers what the arguments ask, with so many bytes for a pool.
-fn answer_within<const SIZE: usize, R: Env + Files, P: Print, E: Print>(
-    rt: &R,
-    out: &mut Output<P>,
-    complaints: &mut Output<E>,
-)
-    requires enough { size_for largest_n ≤ SIZE }
-    requires addressed { SIZE < 2 ^ 63 }
-{
-    let mut pool = [0u8; SIZE];
-    answer(rt, out, complaints, &mut pool);
+    // Answers what the arguments ask, with so many bytes for a pool.
+    fn answer<const SIZE: usize>(&mut self)
+        requires enough { size_for largest_n ≤ SIZE }
+        requires addressed { SIZE < 2 ^ 63 }
+    {
+        let mut pool = [0u8; SIZE];
+        let mut bytes = [0u8; RECORD];
+        let Some(Question { about, in_numbers }) = asked(self.rt) else {
+            self.say_usage();
+            return;
+        };
+        match about {
+            About::Log { log, position } => self.explain_log(&mut pool, log, position, in_numbers),
+            About::Pool { pool: file, record } => {
+                self.explain_pool(&mut pool, &mut bytes, file, record, in_numbers)
+            }
+        }
+    }
 }
 
 fn main(rt: HostRuntime) -> io::Result<()> {
-    let mut out = Output::new(rt.stdout());
-    let mut complaints = Output::new(rt.stderr());
-    answer_within::<POOL, _, _, _>(&rt, &mut out, &mut complaints);
+    let mut program = Program {
+        rt: &rt,
+        out: Output::new(rt.stdout()),
+        complaints: Output::new(rt.stderr()),
+    };
+    program.answer::<POOL>();
+    let Program {
+        rt: _,
+        out,
+        complaints,
+    } = program;
     out.end()?;
     complaints.end()
 }

@@ -1,6 +1,5 @@
 // The files that the arguments name, as they are opened and read.
-ghost use Rattle.std.specs.Prelude.{◌≤◌, IfSome, length};
-
+use crate::Program;
 use crate::arguments::{ARGUMENT, argument};
 use lines::Output;
 use std::env::Env;
@@ -10,7 +9,7 @@ use std::rt::Files;
 use std::{fs, io};
 use stream::fill;
 
-// An open file, and the error of the last read that failed, if one did.
+// An open file, and the error of the last read that failed, if one did: `fill` says that a read failed, and not why.
 #[derive(Drop)]
 pub struct Reading<F> {
     file: F,
@@ -43,44 +42,39 @@ fn say_failed<E: Print, D: Display + Drop>(complaints: &mut Output<E>, name: &[u
     complaints.say(format_args!(": {what}\n"));
 }
 
-// Opens the file of a name; none where it cannot be opened, which is said. A file's name is text.
-pub fn open_named<R: Files, E: Print>(
-    rt: &R,
-    complaints: &mut Output<E>,
-    name: &[u8],
-) -> Option<Reading<R::File>> {
-    let Ok(path) = str::from_utf8(name) else {
-        say_failed(complaints, name, "a file's name is UTF-8, and this is not");
-        return None;
-    };
-    match fs::open(rt, path) {
-        Ok(file) => Some(Reading {
-            file,
-            failure: None,
-        }),
-        Err(failure) => {
-            say_failed(complaints, name, failure);
-            None
+impl<R: Env + Files, P: Print, E: Print> Program<'_, R, P, E> {
+    // Opens the file of a name; none where it cannot be opened, which is said. A file's name is text.
+    pub fn open_named(&mut self, name: &[u8]) -> Option<Reading<R::File>> {
+        let Ok(path) = str::from_utf8(name) else {
+            say_failed(
+                &mut self.complaints,
+                name,
+                "a file's name is UTF-8, and this is not",
+            );
+            return None;
+        };
+        match fs::open(self.rt, path) {
+            Ok(file) => Some(Reading {
+                file,
+                failure: None,
+            }),
+            Err(failure) => {
+                say_failed(&mut self.complaints, name, failure);
+                None
+            }
         }
     }
-}
 
-// Reads the file that an argument names into the bytes lent, and answers how many they hold; none where it cannot be read, which is said.
-pub fn load<R: Env + Files, E: Print>(
-    rt: &R,
-    complaints: &mut Output<E>,
-    i: usize,
-    bytes: &mut [u8],
-) -> Option<usize>
-    ensures { IfSome result (λ held. held ≤ length bytes.new) }
-{
-    let mut name = [0u8; ARGUMENT];
-    let n = argument(rt, i, &mut name);
-    let mut file = open_named(rt, complaints, &name[..n])?;
-    let filled = fill(&mut file, bytes, 0);
-    if filled.failed {
-        file.say_failure(complaints, &name[..n]);
-        return None;
+    // Reads the file that an argument names into the bytes lent, and answers those that it fills; none where it cannot be read, which is said.
+    pub fn load<'b>(&mut self, i: usize, bytes: &'b mut [u8]) -> Option<&'b [u8]> {
+        let mut name = [0u8; ARGUMENT];
+        let name = argument(self.rt, i, &mut name).unwrap_or(b"");
+        let mut file = self.open_named(name)?;
+        let filled = fill(&mut file, bytes, 0);
+        if filled.failed {
+            file.say_failure(&mut self.complaints, name);
+            return None;
+        }
+        Some(&bytes[..filled.held])
     }
-    Some(filled.held)
 }

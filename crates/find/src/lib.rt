@@ -9,7 +9,7 @@ ghost use Rattle.pool.specs.Image.{Arrangement, Image, Fit, state_of};
 ghost use Rattle.pool.specs.Subtree.{StandsAt, Rooted};
 ghost use Rattle.find.specs.Found.{found_in};
 
-use nodes::{NO_NODE, Node, read_header, read_node};
+use nodes::{NO_NODE, Node, TOMBSTONE, read_header, read_node};
 
 #[derive(Clone, Copy)]
 pub enum Found {
@@ -21,29 +21,19 @@ pub enum Found {
     Tombstone { position: u32 },
 }
 
-// The kind of a leaf that is a tombstone.
-const TOMBSTONE: u32 = 2;
-
-// The same number, wider.
-fn widen(x: u32) -> u64
-    ensures { (result ≡ x) × (result < 2 ^ 32) }
-{
-    x as u64
-}
-
 // The least number of an inner node's right half.
 fn middle(low: u32, height: u32) -> u64
     requires { (1 ≤ height) × (height ≤ 32) }
     ensures { result ≡ low + 2 ^ (height - 1) }
 {
-    widen(low) + (1u64 << (height - 1))
+    u64::from(low) + (1u64 << (height - 1))
 }
 
 // A payload from its two halves.
 fn joined(high: u32, low: u32) -> u64
     ensures { result ≡ high * 2 ^ 32 + low }
 {
-    widen(high) * 4294967296 + widen(low)
+    u64::from(high) * 4294967296 + u64::from(low)
 }
 
 // What leaf n says of the key.
@@ -71,7 +61,7 @@ fn descend(pool: &[u8], i: u32, key: u32) -> Found
     if n.height == 0 {
         return at_leaf(n, key);
     }
-    if widen(key) < middle(n.low, n.height) {
+    if u64::from(key) < middle(n.low, n.height) {
         return descend(pool, n.left, key);
     }
     descend(pool, n.right, key)

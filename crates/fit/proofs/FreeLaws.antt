@@ -2,18 +2,18 @@
 -- Assumes nothing.
 use Prim.Native.Nat.{ℕ, zero, suc, ◌-◌, ◌≤◌, ◌<◌}
 use mathlib.Core.Path.{◌≡◌, refl, sym, ap, ◌∙◌}
-use mathlib.Core.Bool.{Bool, true, false, not}
+use mathlib.Core.Bool.{Bool, true, false}
 use mathlib.Core.List.{List, [], ◌∷◌}
 use native.Mathlib.Omega.{arith}
 use lib.Dec.{ltb, eqb}
 use lib.ListN.{length}
-use borrow.Author.Tests.{ltb-true, eqb-true, lt-ltb, le-ltb, eq-eqb, not-true, not-false}
+use borrow.Author.Tests.{ltb-true, eqb-true, lt-ltb, le-ltb, eq-eqb}
 use Rattle.nodes.specs.declared.node.Node.{Node}
 use Rattle.nodes.specs.Nodes.{node_at}
 use Rattle.pool.specs.Plan.{no_node, free_height}
 use Rattle.pool.specs.Image.{AllBelow, HoldsFree, first_of}
 use Rattle.fit.specs.Whole.{free_ok, chain_ok}
-use Rattle.fit.proofs.Tests.{and_both, is_false}
+use Rattle.fit.proofs.Tests.{and_both}
 use Rattle.fit.proofs.Sound.{node_is}
 
 -- a free node's words but its next
@@ -59,14 +59,6 @@ module _ (n : Node) (rank : ℕ) where
         no_spare = eqb-true n.spare 0 f.1;
       }
 
-  pub no_free : (Free n rank → ⊥) → false ≡ free_ok n rank
-  no_free h = is_false (free_ok n rank) (λ t. h (free_facts t))
-
-  pub free_last : n.height ≡ free_height → n.newest ≡ rank → n.oldest ≡ 0 → n.left ≡ 0 → n.right ≡ 0 → n.kind ≡ 0 → eqb n.spare 0 ≡ free_ok n rank
-  unfolding free_ok
-  free_last a b c d e f =
-      rw (eq-eqb n.height free_height a, eq-eqb n.newest rank b, eq-eqb n.oldest 0 c, eq-eqb n.left 0 d, eq-eqb n.right 0 e, eq-eqb n.kind 0 f)
-
 -- THE CHAIN
 
 module _ (m : List ℕ) (nodes : ℕ) where
@@ -75,15 +67,15 @@ module _ (m : List ℕ) (nodes : ℕ) where
   chain_out zero i p h = absurd (omega arith)
   chain_out (suc k) i p h = rw (le-ltb i nodes h)
 
-  pub chain_bad : (k i : ℕ) (n : Node) (b : Bool) → 0 < k → i < nodes → n ≡ node_at m i → b ≡ free_ok n k → not b ≡ true → false ≡ chain_ok m nodes k i
+  pub chain_bad : (k i : ℕ) (n : Node) (b : Bool) → 0 < k → i < nodes → n ≡ node_at m i → b ≡ free_ok n k → b ≡ false → false ≡ chain_ok m nodes k i
   unfolding chain_ok
   chain_bad zero i n b p h e x y = absurd (omega arith)
-  chain_bad (suc k) i n b p h e x y = rw (lt-ltb i nodes h, ← e, sym x ∙ not-true b y)
+  chain_bad (suc k) i n b p h e x y = rw (lt-ltb i nodes h, ← e, sym x ∙ y)
 
-  pub chain_next : (k i : ℕ) (n : Node) (b : Bool) → 0 < k → i < nodes → n ≡ node_at m i → b ≡ free_ok n k → not b ≡ false → chain_ok m nodes k i ≡ chain_ok m nodes (k - 1) n.low
+  pub chain_next : (k i : ℕ) (n : Node) (b : Bool) → 0 < k → i < nodes → n ≡ node_at m i → b ≡ free_ok n k → b ≡ true → chain_ok m nodes k i ≡ chain_ok m nodes (k - 1) n.low
   unfolding chain_ok
   chain_next zero i n b p h e x y = absurd (omega arith)
-  chain_next (suc k) i n b p h e x y = let one : suc k - 1 ≡ k = omega arith in rw (one, lt-ltb i nodes h, ← e, sym x ∙ not-false b y)
+  chain_next (suc k) i n b p h e x y = let one : suc k - 1 ≡ k = omega arith in rw (one, lt-ltb i nodes h, ← e, sym x ∙ y)
 
   pub chain_end : (k i : ℕ) → k ≤ 0 → eqb i no_node ≡ chain_ok m nodes k i
   unfolding chain_ok

@@ -1,19 +1,15 @@
 -- What the code of the header's and the whole check knows at each of its answers.
 -- Assumes nothing.
-use Prim.Native.Nat.{ℕ, ◌+◌, ◌-◌, ◌*◌, ◌≤◌, ◌<◌}
-use mathlib.Core.Path.{◌≡◌, refl, sym, ◌∙◌, subst}
-use mathlib.Core.Bool.{Bool, true, false, not}
+use Prim.Native.Nat.{ℕ, ◌+◌, ◌-◌, ◌≤◌, ◌<◌}
+use mathlib.Core.Path.{◌≡◌, refl, sym, ◌∙◌}
+use mathlib.Core.Bool.{Bool, true, false}
 use mathlib.Core.List.{List}
 use native.Mathlib.Omega.{arith}
-use lib.Dec.{eqb}
-use lib.ListN.{length, get_or}
-use borrow.Author.Tests.{lt-ltb, le-ltb, le-leb, lt-leb, eq-eqb, ne_eqb, not-true, not-false}
-use Rattle.nodes.specs.declared.node.Node.{Node}
-use Rattle.nodes.specs.declared.header.Header.{Header}
-use Rattle.nodes.specs.Nodes.{node_at, header_at}
-use Rattle.pool.specs.Plan.{no_node}
-use Rattle.pool.specs.Image.{layout_mark}
-use Rattle.fit.specs.Whole.{Decides, tree_ok, free_count, leaves_from, Head}
+use lib.ListN.{length, get_or, take, drop, length-take, length-drop}
+use lib.Seq.{get_or-drop, get_or-take}
+use Rattle.std.specs.Prelude.{MatchBool}
+use Rattle.std.specs.List.{AllWithin, HoldsAt}
+use Rattle.fit.specs.Whole.{Decides}
 use Rattle.fit.proofs.Tests.{differ}
 
 pub decides_yes : {P : Type 0} → P → Decides P true
@@ -22,68 +18,20 @@ decides_yes p = record { sound = λ _. p; complete = λ _. refl }
 pub decides_no : {P : Type 0} → (P → ⊥) → Decides P false
 decides_no h = record { sound = λ e. differ (sym e); complete = λ p. absurd (h p) }
 
--- one question for another
-pub decides_by : {P Q : Type 0} (r : Bool) → (P → Q) → (Q → P) → Decides P r → Decides Q r
-decides_by r f g d = record { sound = λ e. f (d.sound e); complete = λ q. d.complete (g q) }
-
-pub decides_refuse : {P Q : Type 0} (b : Bool) → Decides P b → not b ≡ true → (Q → P) → Decides Q false
-decides_refuse b d h g = decides_no (λ q. differ (sym (d.complete (g q)) ∙ not-true b h))
-
 -- THE ZEROS
 
 abbrev pub Zeros : List ℕ → ℕ → Type 0
 Zeros m to = (k : ℕ) → 28 ≤ k → k < to → get_or m k 0 ≡ 0
 
-pub zeros_more : (m : List ℕ) (at : ℕ) → Zeros m at → get_or m at 0 ≡ 0 → Zeros m (at + 1)
-zeros_more m at z e k a b = elim (native.Mathlib.Decide.dec_lt k at) [ yes l ↦ z k a l | no g ↦ subst (λ (j : ℕ). get_or m j 0 ≡ 0) (omega arith) e ]
+part_at : (m : List ℕ) (j : ℕ) → j < 36 → get_or (take 36 (drop 28 m)) j 0 ≡ get_or m (28 + j) 0
+part_at m j l = get_or-take 36 (drop 28 m) j 0 l ∙ get_or-drop 28 m j 0
 
--- THE HEADER
-
-module _ (m : List ℕ) (h : Header) (e : h ≡ header_at m) where
-  pub head_of : Head m → (h.mark ≡ layout_mark) × (1 ≤ h.limit) × (h.limit ≤ 65536) × (1 ≤ h.zone) × (h.zone ≤ 4096) × (length m ≡ 64 + 64 * h.limit) × (h.kept ≤ h.limit)
-  head_of f = rw e (f.marked, f.limit_N.0, f.limit_N.1, f.limit_Z.0, f.limit_Z.1, f.size, f.few)
-
-  pub no_head : ((h.mark ≡ layout_mark) × (1 ≤ h.limit) × (h.limit ≤ 65536) × (1 ≤ h.zone) × (h.zone ≤ 4096) × (length m ≡ 64 + 64 * h.limit) × (h.kept ≤ h.limit) → ⊥) → Decides (Head m) false
-  no_head f = decides_no (λ x. f (head_of x))
-
-  pub head_last : (r : Bool) → h.mark ≡ layout_mark → 1 ≤ h.limit → h.limit ≤ 65536 → 1 ≤ h.zone → h.zone ≤ 4096 → length m ≡ 64 + 64 * h.limit → h.kept ≤ h.limit
-      → Decides (Zeros m 64) r → Decides (Head m) r
-  head_last r a b c d f g k z =
-      decides_by r (λ q. record { marked = rw (← e) a; limit_N = rw (← e) (b, c); limit_Z = rw (← e) (d, f); size = rw (← e) g; few = rw (← e) k; zeros = q }) (λ x. x.zeros) z
-
--- THE TREE'S PLACE
-
-module _ (m : List ℕ) (nodes root kept p : ℕ) where
-  pub tree_none : kept ≡ 0 → eqb root no_node ≡ tree_ok m nodes root kept p
-  unfolding tree_ok
-  tree_none e = rw (eq-eqb kept 0 e)
-
-  module _ (nz : kept ≡ 0 → ⊥) where
-    pub tree_out : nodes ≤ root → false ≡ tree_ok m nodes root kept p
-    unfolding tree_ok
-    tree_out h = rw (ne_eqb kept 0 nz, le-ltb root nodes h)
-
-    pub tree_late : (n : Node) → n ≡ node_at m root → root < nodes → p < n.newest → false ≡ tree_ok m nodes root kept p
-    unfolding tree_ok
-    tree_late n e h l = rw (ne_eqb kept 0 nz, lt-ltb root nodes h, ← e, lt-leb n.newest p l)
-
-    pub tree_last : (n : Node) (c : ℕ) → n ≡ node_at m root → root < nodes → n.newest ≤ p → c ≡ leaves_from m nodes root → eqb c kept ≡ tree_ok m nodes root kept p
-    unfolding tree_ok
-    tree_last n c e h l x = rw (ne_eqb kept 0 nz, lt-ltb root nodes h, ← e, le-leb n.newest p l, x)
-
-pub free_none : (N c : ℕ) → c ≡ 0 → 2 * N ≡ free_count N c
-free_none N c e = rw (eq-eqb c 0 e)
-
-pub free_some : (N c : ℕ) → (c ≡ 0 → ⊥) → 2 * N + 1 - 2 * c ≡ free_count N c
-free_some N c e = rw (ne_eqb c 0 e)
-
--- THE WHOLE
-
-module _ (m : List ℕ) (h : Header) where
-  -- what the header's check has shown of the header that was read
-  pub known_head : (b : Bool) → Decides (Head m) b → not b ≡ false → h ≡ header_at m → (1 ≤ h.limit) × (h.limit ≤ 65536) × (length m ≡ 64 + 64 * h.limit) × (h.kept ≤ h.limit)
-  known_head b d x e = let f = d.sound (not-false b x) in rw e (f.limit_N.0, f.limit_N.1, f.size, f.few)
-
-  pub refuse_tree : {P : Type 0} (e : h ≡ header_at m) (b : Bool) → b ≡ tree_ok m (2 * h.limit) h.root h.kept h.position → not b ≡ true
-      → (P → tree_ok m (2 * (header_at m).limit) (header_at m).root (header_at m).kept (header_at m).position ≡ true) → Decides P false
-  refuse_tree e b x y f = decides_no (λ p. differ (sym (rw (← e) at (f p)) ∙ sym x ∙ not-true b y))
+-- what the code finds of the bytes from 28 to 63
+pub zeros_found : (m : List ℕ) (r : Bool) → 64 ≤ length m
+    → MatchBool r (AllWithin (λ x. x ≡ 0) (take 36 (drop 28 m)) 0 (length (take 36 (drop 28 m)))) ((k : ℕ) × (k < length (take 36 (drop 28 m))) × HoldsAt (λ x. x ≡ 0 → ⊥) (take 36 (drop 28 m)) k)
+    → Decides (Zeros m 64) r
+zeros_found m true l h =
+    decides_yes (λ k a b. let at : 28 + (k - 28) ≡ k = omega arith in rw at at (sym (part_at m (k - 28) (omega arith)) ∙ h (k - 28) 0 (omega arith) (omega (arith, length-take 36 (drop 28 m), length-drop 28 m))))
+zeros_found m false l h =
+    let few : h.0 < 36 = omega (arith, h.1, length-take 36 (drop 28 m), length-drop 28 m) in
+    decides_no (λ z. h.2 0 (part_at m h.0 few ∙ z (28 + h.0) (omega arith) (omega arith)))

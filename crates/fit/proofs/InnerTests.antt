@@ -1,16 +1,15 @@
 -- What the tests on an inner node say, as records of facts.
 -- Assumes nothing.
 use Prim.Native.Nat.{ℕ, ◌+◌, ◌%◌, ◌^◌, ◌≤◌, ◌<◌, max, min}
-use mathlib.Core.Path.{◌≡◌, sym, ap, ◌∙◌}
-use mathlib.Core.Bool.{Bool, true, false, not}
+use mathlib.Core.Path.{◌≡◌}
+use mathlib.Core.Bool.{true}
 use mathlib.Core.List.{List}
-use native.Mathlib.Omega.{arith}
 use lib.Dec.{ltb, leb, eqb}
-use borrow.Author.Tests.{ltb-true, leb-true, eqb-true, lt-ltb, le-leb, eq-eqb, not-true, not-false}
+use borrow.Author.Tests.{ltb-true, leb-true, eqb-true, lt-ltb, le-leb, eq-eqb}
 use Rattle.nodes.specs.declared.node.Node.{Node}
 use Rattle.nodes.specs.Nodes.{node_at}
 use Rattle.fit.specs.Check.{own_ok, sums_ok, inner_ok}
-use Rattle.fit.proofs.Tests.{and_both, is_false}
+use Rattle.fit.proofs.Tests.{and_both}
 
 -- an inner node's own words
 pub record Own (n : Node) (from to : ℕ) : Type 0 where
@@ -50,16 +49,6 @@ own_facts n from to h =
       no_spare = eqb-true n.spare 0 e.1;
     }
 
-module _ (n : Node) (from to : ℕ) where
-  pub no_own : (Own n from to → ⊥) → false ≡ own_ok n from to
-  no_own h = is_false (own_ok n from to) (λ t. h (own_facts n from to t))
-
-  -- all but the last word is as it should be: the last decides
-  pub own_last : n.height ≤ 32 → from ≤ n.low → n.low + 2 ^ n.height ≤ to → n.low % 2 ^ n.height ≡ 0 → n.kind ≡ 0 → eqb n.spare 0 ≡ own_ok n from to
-  unfolding own_ok
-  own_last a b c d e =
-      rw (le-leb n.height 32 a, le-leb from n.low b, le-leb (n.low + 2 ^ n.height) to c, eq-eqb (n.low % 2 ^ n.height) 0 d, eq-eqb n.kind 0 e)
-
 -- newest and oldest
 pub record Sums (n l r : Node) : Type 0 where
   pub is_newest : n.newest ≡ max l.newest r.newest
@@ -74,14 +63,6 @@ unfolding sums_ok
 sums_facts n l r h =
     let a = and_both (eqb n.newest (max l.newest r.newest)) _ h in
     record { is_newest = eqb-true n.newest (max l.newest r.newest) a.0; is_oldest = eqb-true n.oldest (min l.oldest r.oldest) a.1 }
-
-module _ (n l r : Node) (x y : ℕ) where
-  pub no_sums : x ≡ max l.newest r.newest → (n.newest ≡ x → ⊥) → false ≡ sums_ok n l r
-  no_sums e h = is_false (sums_ok n l r) (λ t. h ((sums_facts n l r t).is_newest ∙ sym e))
-
-  pub sums_last : x ≡ max l.newest r.newest → n.newest ≡ x → y ≡ min l.oldest r.oldest → eqb n.oldest y ≡ sums_ok n l r
-  unfolding sums_ok
-  sums_last e h f = rw (f, eq-eqb n.newest (max l.newest r.newest) (h ∙ e))
 
 -- an inner node with its children
 pub record InnerFacts (m : List ℕ) (nodes i from to : ℕ) : Type 0 where
@@ -109,23 +90,3 @@ module _ (m : List ℕ) (nodes i from to : ℕ) where
         right_in = ltb-true (node_at m i).right nodes c.0;
         sums = sums_facts _ _ _ c.1;
       }
-
-  -- what the code knows at each of its answers, of the node n that it read
-  module _ (n : Node) (e : n ≡ node_at m i) where
-    pub inner_own : (b : Bool) → b ≡ own_ok n from to → not b ≡ true → false ≡ inner_ok m nodes i from to
-    inner_own b x h = is_false (inner_ok m nodes i from to) (λ t. own_stops (inner_facts t).own)
-      where
-        own_stops : Own (node_at m i) from to → ⊥
-        own_stops f = Rattle.fit.proofs.Tests.differ (sym (own_true n from to (rw e f)) ∙ sym x ∙ not-true b h)
-
-    pub inner_left : nodes ≤ n.left → false ≡ inner_ok m nodes i from to
-    inner_left h = is_false (inner_ok m nodes i from to) (λ t. omega (arith, (inner_facts t).left_in, ap (λ (z : Node). z.left) e))
-
-    pub inner_right : nodes ≤ n.right → false ≡ inner_ok m nodes i from to
-    inner_right h = is_false (inner_ok m nodes i from to) (λ t. omega (arith, (inner_facts t).right_in, ap (λ (z : Node). z.right) e))
-
-    pub inner_last : (b r : Bool) (l k : Node) → b ≡ own_ok n from to → not b ≡ false → n.left < nodes → n.right < nodes → l ≡ node_at m n.left → k ≡ node_at m n.right
-        → r ≡ sums_ok n l k → r ≡ inner_ok m nodes i from to
-    unfolding inner_ok
-    inner_last b r l k x h p q el ek s =
-        s ∙ rw (el, ek, ← e, sym x ∙ not-false b h, lt-ltb n.left nodes p, lt-ltb n.right nodes q)

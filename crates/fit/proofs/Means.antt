@@ -2,14 +2,14 @@
 -- Assumes nothing.
 use Prim.Native.Nat.{ℕ, ◌+◌, ◌-◌, ◌*◌, ◌≤◌, ◌<◌}
 use mathlib.Core.Path.{◌≡◌, refl, sym, ap, ◌∙◌, subst}
-use mathlib.Core.Bool.{Bool, true, false, not, ◌&&◌}
+use mathlib.Core.Bool.{Bool, true, false, ◌&&◌}
 use mathlib.Core.List.{List, ◌++◌, Memᴰ as Mem}
 use mathlib.Core.Logic.{⊎_elim}
 use mathlib.Core.Option.{Option, none, some}
 use native.Mathlib.Omega.{arith}
 use lib.Dec.{ltb, leb, eqb}
 use lib.ListN.{length, length-append}
-use borrow.Author.Tests.{ltb-true, leb-true, eqb-true, eqb-false, lt-ltb, le-leb, eq-eqb, ne_eqb, not-false}
+use borrow.Author.Tests.{ltb-true, leb-true, eqb-true, eqb-false, lt-ltb, le-leb, eq-eqb, ne_eqb}
 use Rattle.words.specs.Word.{Bytes}
 use Rattle.nodes.specs.declared.header.Header.{Header}
 use Rattle.nodes.specs.Nodes.{node_at, header_at}
@@ -27,7 +27,7 @@ use Rattle.pool.proofs.Words.{newest_held}
 use Rattle.pool.proofs.Placed.{placed_canonical, canonical_placed}
 use Rattle.pool.proofs.Apart.{numbers_count, free_distinct, all_distinct}
 use Rattle.fit.specs.Whole.{Decides, tree_ok, free_count, leaves_from, Head, chain_ok}
-use Rattle.fit.proofs.Tests.{and_both}
+use Rattle.fit.proofs.Tests.{and_both, differ}
 use Rattle.fit.proofs.Sound.{Good, StandsWithin, sound, below_append}
 use Rattle.fit.proofs.Complete.{complete, some_leaf, below_left, below_right, root_below}
 use Rattle.fit.proofs.FreeLaws.{Chained, chain_sound, chain_complete}
@@ -199,12 +199,15 @@ module _ (m : List ℕ) where
   pub too_short : length m < 64 → Fit m → ⊥
   too_short l f = omega (arith, f.image.size)
 
+  -- the tree does not pass
+  pub fit_refused : (h : Header) → h ≡ header_at m → (t : Bool) → t ≡ tree_ok m (2 * h.limit) h.root h.kept h.position → t ≡ false → Decides (Fit m) t
+  fit_refused h e t et n = record { sound = λ z. differ (sym z ∙ n); complete = λ f. et ∙ rw e (fit_checked f).tree }
+
   -- header and tree have passed: the free nodes decide
-  pub fit_last : (h : Header) → h ≡ header_at m → Bytes m → (b : Bool) → Decides (Head m) b → not b ≡ false
-      → (t : Bool) → t ≡ tree_ok m (2 * h.limit) h.root h.kept h.position → not t ≡ false
+  pub fit_last : (h : Header) → h ≡ header_at m → Bytes m → Head m → true ≡ tree_ok m (2 * h.limit) h.root h.kept h.position
       → (c : ℕ) → c ≡ free_count h.limit h.kept → (r : Bool) → r ≡ chain_ok m (2 * h.limit) c h.free → Decides (Fit m) r
-  fit_last h e bytes b d x t et y c ec r er =
+  fit_last h e bytes hd et c ec r er =
       record {
-        sound = λ z. whole_sound m bytes (d.sound (not-false b x)) (rw e at (sym et ∙ not-false t y)) (rw (ec, e) at (sym er ∙ z));
+        sound = λ z. whole_sound m bytes hd (rw e at (sym et)) (rw (ec, e) at (sym er ∙ z));
         complete = λ f. er ∙ rw (ec, e) (fit_checked f).chain;
       }

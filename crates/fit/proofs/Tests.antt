@@ -1,7 +1,7 @@
 -- What each test of the check says: a record of its facts, which hold exactly where the test passes.
 -- Assumes nothing.
 use Prim.Native.Nat.{ℕ, ◌≤◌, ◌<◌}
-use mathlib.Core.Path.{◌≡◌, refl, sym, ap, ◌∙◌}
+use mathlib.Core.Path.{◌≡◌, refl, sym, ap}
 use mathlib.Core.Bool.{Bool, true, false, ◌&&◌, ◌||◌}
 use mathlib.Core.Logic.{◌⊎◌, inl, inr}
 use native.Mathlib.Omega.{arith}
@@ -24,10 +24,6 @@ and_both false q h = differ (sym h)
 pub or_either : (p q : Bool) → p || q ≡ true → (p ≡ true) ⊎ (q ≡ true)
 or_either true q h = inl refl
 or_either false q h = inr h
-
-or-false : (p : Bool) → p ≡ p || false
-or-false true = refl
-or-false false = refl
 
 -- false where true leads nowhere
 pub is_false : (b : Bool) → (b ≡ true → ⊥) → false ≡ b
@@ -101,26 +97,6 @@ entry_facts n h =
     go (inl e) = inl (live_facts n e)
     go (inr e) = inr (tombstone_facts n e)
 
--- what the code knows at each of its answers
-module _ (n : Node) where
-  pub no_entry : (Written n → ⊥) → false ≡ entry_ok n
-  no_entry h = is_false (entry_ok n) (λ t. h (entry_facts n t))
-
-  pub no_sort : (LiveFacts n → ⊥) → (TombstoneFacts n → ⊥) → false ≡ entry_ok n
-  no_sort a b = no_entry (λ f. go f.sort)
-    where
-      go : LiveFacts n ⊎ TombstoneFacts n → ⊥
-      go (inl x) = a x
-      go (inr x) = b x
-
-  pub live_entry : 1 ≤ n.newest → n.spare ≡ 0 → n.kind ≡ 1 → eqb n.oldest no_tombstone ≡ entry_ok n
-  unfolding entry_ok live_ok tombstone_ok
-  live_entry w s k = rw (lt-ltb 0 n.newest w, eq-eqb n.spare 0 s, k) (or-false (eqb n.oldest no_tombstone))
-
-  pub tombstone_entry : 1 ≤ n.newest → n.spare ≡ 0 → n.kind ≡ 2 → n.oldest ≡ n.newest → n.left ≡ 0 → eqb n.right 0 ≡ entry_ok n
-  unfolding entry_ok live_ok tombstone_ok
-  tombstone_entry w s k o l = rw (lt-ltb 0 n.newest w, eq-eqb n.spare 0 s, k, eq-eqb n.oldest n.newest o, eq-eqb n.left 0 l)
-
 pub record LeafFacts (n : Node) (from to : ℕ) : Type 0 where
   pub at_least : from ≤ n.low
   pub below : n.low < to
@@ -136,11 +112,3 @@ leaf_facts n from to h =
     let a = and_both (leb from n.low) _ h in
     let b = and_both (ltb n.low to) _ a.1 in
     record { at_least = leb-true from n.low a.0; below = ltb-true n.low to b.0; words = entry_facts n b.1 }
-
-module _ (n n' : Node) (from to : ℕ) (e : n ≡ n') where
-  pub no_leaf : (LeafFacts n from to → ⊥) → false ≡ leaf_ok n' from to
-  no_leaf h = rw e at (is_false (leaf_ok n from to) (λ t. h (leaf_facts n from to t)))
-
-  pub leaf_entry : (r : Bool) → from ≤ n.low → n.low < to → r ≡ entry_ok n → r ≡ leaf_ok n' from to
-  unfolding leaf_ok
-  leaf_entry r a b x = x ∙ rw (← e, le-leb from n.low a, lt-ltb n.low to b)

@@ -6,6 +6,7 @@ mod head;
 mod inner;
 mod leaf;
 mod leaves;
+mod lent;
 pub mod whole;
 
 pub use whole::fit;

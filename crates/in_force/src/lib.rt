@@ -8,18 +8,18 @@ use record_log::{Cut, cut};
 
 // The original after 5; after 0 the record at the front of the refreshed buffer if the log rule finds one there;
 // in every other case the empty part at the original's start.
+#[tactic(auto, unfolding(crate::specs::InForce::source_of))]
 pub fn in_force<'a>(answer: Answer, original: &'a [u8], refreshed: &'a [u8]) -> &'a [u8]
     ensures { InForce answer original.entry refreshed.entry result }
 {
-    let number = answer.number;
-    if number == Answer::AHEAD.number {
+    if answer == Answer::AHEAD {
         return original;
     }
-    if number != Answer::COMMITTED.number {
-        return &original[0..0];
+    if answer != Answer::COMMITTED {
+        return &original[..0];
     }
     let Cut::Record(next) = cut(refreshed, 0) else {
-        return &original[0..0];
+        return &original[..0];
     };
-    &refreshed[0..next]
+    &refreshed[..next]
 }

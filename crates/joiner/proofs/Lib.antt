@@ -1,6 +1,7 @@
 pub mod LastScans
 pub mod ScanJoin
 pub mod ScanHeld
+pub mod LeftRuns
 pub mod ScanTakes
 pub mod ScanTurns
 pub mod ScanLoops

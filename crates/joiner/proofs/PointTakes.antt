@@ -2,23 +2,25 @@
 -- Assumes nothing.
 use Prim.Native.Nat.{ℕ, ◌+◌, ◌-◌, ◌≤◌, ◌<◌}
 use mathlib.Core.Bool.{Bool, true, false, ◌&&◌, ◌||◌}
-use mathlib.Core.Path.{◌≡◌, refl, sym, ap, ◌∙◌, subst}
+use mathlib.Core.Path.{◌≡◌, refl, sym, ap, ◌∙◌}
 use mathlib.Core.List.{List, ◌∷◌}
 use native.Mathlib.Omega.{arith}
 use lib.ListN.{length}
+use Rattle.std.specs.Prelude.{Option, Some, None}
 use Rattle.record.specs.declared.point.Point.{Point}
-use Rattle.record.specs.declared.checker.PointStep.{PointStep}
-use Rattle.record.specs.declared.checker.PointStep.TheVariants.{Bad, Next}
-use Rattle.record.specs.Record.{key_of, point_bytes}
-use Rattle.record.specs.Parse.{Parsed, also, step_point, parse_points, is_took, list_of}
+use Rattle.record.specs.Record.{key_of, size_of}
+use Rattle.record.specs.Parse.{Parsed, also, point_items, step_point, is_took, list_of}
+use Rattle.record.specs.Steps.{point_within}
 use Rattle.record.proofs.Cases.{took_also, place_also, list_also}
-use Rattle.record.proofs.FillLaws.{no_took}
-use Rattle.record.proofs.PointLaws.{step_size}
 use Rattle.writer.proofs.NamedLaws.{PointsInOrder}
+use Rattle.joiner.specs.declared.left.Left.{Left}
 use Rattle.joiner.specs.Joined.{puts_or_deletes, entry_of, joined_points, scans_key}
+use Rattle.joiner.specs.Left.{run_left, behind}
 use Rattle.joiner.specs.PointSteps.{clashes_named, clashes_scanned, PointsJoin, PointNext, NextPoint}
+use Rattle.joiner.proofs.LeftRuns.{left_none, left_bad, left_first}
 use Rattle.joiner.proofs.PointJoin.{joined_first, joined_second, joined_both, key_entry, clash_first, clash_second, clash_both, clash_here}
-use Rattle.joiner.proofs.PointRuns.{StepIs, step_is, run_order, run_bad, run_here, run_raised, run_none}
+use Rattle.joiner.proofs.PointRuns.{order_also, run_order}
+use Rattle.joiner.proofs.ScansAhead.{clash_not_below}
 
 -- A POINT IN FRONT OF A RUN
 
@@ -32,9 +34,9 @@ module _ (p : Point) (x : Parsed Point) (t : is_took (also p x) ≡ true) where
   front_list = list_also p x behind_took
 
 -- a's first point lies below all of b's
-next_a : (p : Point) (x y : Parsed Point) (size : ℕ) (changed : Bool) → PointsInOrder (key_of p + 1) (list_of y) → changed ≡ puts_or_deletes p → size ≡ length (point_bytes p)
-    → PointNext (also p x) y x y p size changed
-next_a p x y size changed o c s =
+next_a : (p : Point) (x y : Parsed Point) (changed : Bool) → PointsInOrder (key_of p + 1) (list_of x) → PointsInOrder (key_of p + 1) (list_of y) → changed ≡ puts_or_deletes p
+    → PointNext (also p x) y x y p changed
+next_a p x y changed r o c =
     record {
       same_a = sym (took_also p x);
       same_b = refl;
@@ -43,13 +45,12 @@ next_a p x y size changed o c s =
       joined = λ t u. ap (λ (l : List Point). joined_points l (list_of y)) (front_list p x t) ∙ joined_first p (list_of x) (list_of y) o;
       named = λ t u. ap (λ (l : List Point). clashes_named l (list_of y)) (front_list p x t) ∙ clash_first p (list_of x) (list_of y) o;
       scanned = λ t cs. ap (λ (l : List Point). clashes_scanned l cs) (front_list p x t) ∙ ap (λ (b : Bool). (b && scans_key (key_of p) cs) || clashes_scanned (list_of x) cs) (sym c);
-      size_is = s;
+      passed = λ cs. clash_not_below (key_of p) (key_of p + 1) (list_of x) cs (omega arith) r;
     }
 
 -- b's first point lies below all of a's
-next_b : (q : Point) (x y : Parsed Point) (size : ℕ) → PointsInOrder (key_of q + 1) (list_of x) → PointsInOrder (key_of q + 1) (list_of y) → size ≡ length (point_bytes q)
-    → PointNext x (also q y) x y q size false
-next_b q x y size o r s =
+next_b : (q : Point) (x y : Parsed Point) → PointsInOrder (key_of q + 1) (list_of x) → PointsInOrder (key_of q + 1) (list_of y) → PointNext x (also q y) x y q false
+next_b q x y o r =
     record {
       same_a = refl;
       same_b = sym (took_also q y);
@@ -58,13 +59,13 @@ next_b q x y size o r s =
       joined = λ t u. ap (joined_points (list_of x)) (front_list q y u) ∙ joined_second q (list_of x) (list_of y) o r;
       named = λ t u. ap (clashes_named (list_of x)) (front_list q y u) ∙ clash_second (key_of q + 1) q (list_of x) (list_of y) (omega arith) o;
       scanned = λ t cs. refl;
-      size_is = s;
+      passed = λ cs. clash_not_below (key_of q) (key_of q + 1) (list_of x) cs (omega arith) o;
     }
 
 -- both first points have one key, and a's is a read
-next_both : (p q e : Point) (x y : Parsed Point) (size : ℕ) → key_of p ≡ key_of q → puts_or_deletes p ≡ false → e ≡ entry_of p q
-    → PointsInOrder (key_of p + 1) (list_of x) → PointsInOrder (key_of q + 1) (list_of y) → size ≡ length (point_bytes e) → PointNext (also p x) (also q y) x y e size false
-next_both p q e x y size k w is o r s =
+next_both : (p q e : Point) (x y : Parsed Point) → key_of p ≡ key_of q → puts_or_deletes p ≡ false → e ≡ entry_of p q
+    → PointsInOrder (key_of p + 1) (list_of x) → PointsInOrder (key_of q + 1) (list_of y) → PointNext (also p x) (also q y) x y e false
+next_both p q e x y k w is o r =
     record {
       same_a = sym (took_also p x);
       same_b = sym (took_also q y);
@@ -75,143 +76,116 @@ next_both p q e x y size k w is o r s =
       named = λ t u. ap (λ (l : List Point). clashes_named l (list_of (also q y))) (front_list p x t) ∙ ap (clashes_named (p ∷ list_of x)) (front_list q y u)
           ∙ clash_both p q (list_of x) (list_of y) k w o;
       scanned = λ t cs. ap (λ (l : List Point). clashes_scanned l cs) (front_list p x t) ∙ rw w;
-      size_is = s;
+      passed = λ cs. clash_not_below (key_of e) (key_of p + 1) (list_of x) cs (omega (arith, ap key_of is, key_entry p q k)) o;
     }
-
--- the same of runs that are equal to these
-next_same : (x y u w x' y' : Parsed Point) (p : Point) (size : ℕ) (changed : Bool) → x ≡ u → y ≡ w → PointNext u w x' y' p size changed → PointNext x y x' y' p size changed
-next_same x y u w x' y' p size changed e f n =
-    subst (λ (z : Parsed Point). PointNext z y x' y' p size changed) (sym e) (subst (λ (z : Parsed Point). PointNext u z x' y' p size changed) (sym f) n)
 
 -- THE RETURNS
 
-module _ (low : ℕ) (a : List ℕ) (at_a left-a : ℕ) (b : List ℕ) (at_b left-b : ℕ) where
-  -- a has no point left, and b's is not well formed
-  pub bad_last_b : (r : PointStep) → r ≡ step_point low b at_b → r ≡ Bad → 0 < left-a + left-b → left-a ≡ 0
-      → PointsJoin (parse_points left-a low a at_a) (parse_points left-b low b at_b) → ⊥
-  bad_last_b r is e h z j = no_took (parse_points left-b low b at_b) (run_bad left-b low b at_b (omega arith) (sym is ∙ e)) j.took_b
+-- a run without points lies above any key
+order_none : (low : ℕ) (bs : List ℕ) (l : Left) → l.count ≡ 0 → PointsInOrder low (list_of (run_left point_items bs l))
+order_none low bs l e = rw (left_none point_items bs l e) tt
 
-  -- a's is not well formed
-  pub bad_a : (r : PointStep) → r ≡ step_point low a at_a → r ≡ Bad → (left-a ≡ 0 → ⊥) → PointsJoin (parse_points left-a low a at_a) (parse_points left-b low b at_b) → ⊥
-  bad_a r is e h j = no_took (parse_points left-a low a at_a) (run_bad left-a low a at_a (omega arith) (sym is ∙ e)) j.took_a
+-- a run with a first point lies above any key below it
+order_first : (low : ℕ) (bs : List ℕ) (l : Left) (p : Point) → run_left point_items bs l ≡ also p (run_left point_items bs (behind point_items l p)) → low ≤ key_of p
+    → PointsInOrder low (list_of (run_left point_items bs l))
+order_first low bs l p e h =
+    rw e (order_also low p (run_left point_items bs (behind point_items l p)) h (run_order (l.count - 1) (key_of p + 1) bs (l.at + size_of p)))
+
+module _ (a : List ℕ) (l : Left) (b : List ℕ) (k : Left) where
+  -- a's next is not well formed
+  pub bad_a : (r : Option Point) → r ≡ step_point l.least a l.at → r ≡ None → (l.count ≡ 0 → ⊥) → PointsJoin (run_left point_items a l) (run_left point_items b k) → ⊥
+  bad_a r is e n j = left_bad point_items a l r is n e j.took_a
 
   -- b's is not well formed
-  pub bad_b : (r : PointStep) → r ≡ step_point low b at_b → r ≡ Bad → (left-b ≡ 0 → ⊥) → PointsJoin (parse_points left-a low a at_a) (parse_points left-b low b at_b) → ⊥
-  bad_b r is e h j = no_took (parse_points left-b low b at_b) (run_bad left-b low b at_b (omega arith) (sym is ∙ e)) j.took_b
+  pub bad_b : (r : Option Point) → r ≡ step_point k.least b k.at → r ≡ None → (k.count ≡ 0 → ⊥) → PointsJoin (run_left point_items a l) (run_left point_items b k) → ⊥
+  bad_b r is e n j = left_bad point_items b k r is n e j.took_b
 
-  -- b's point is the next, and a's points are as they were
-  from_b : (q : Point) (size : ℕ) → step_point low b at_b ≡ Next q size → at_a ≤ length a → 0 < left-b
-      → parse_points left-a (key_of q + 1) a at_a ≡ parse_points left-a low a at_a
-      → NextPoint low a at_a left-a b at_b left-b q size false at_a left-a (at_b + size) (left-b - 1)
-  from_b q size e w h same =
-      record {
-        within_a = w;
-        within_b = step_size low b at_b q size e;
-        fewer = omega arith;
-        next = next_same _ _ _ _ _ _ q size false (sym same) (run_here left-b low b at_b q size h e)
-            (next_b q (parse_points left-a (key_of q + 1) a at_a) (parse_points (left-b - 1) (key_of q + 1) b (at_b + size)) size
-            (run_order left-a (key_of q + 1) a at_a) (run_order (left-b - 1) (key_of q + 1) b (at_b + size)) (step_is low b at_b q size e).size_is);
-      }
+  -- nor is it where a has no point left
+  pub bad_last_b : (r : Option Point) → r ≡ step_point k.least b k.at → r ≡ None → 0 < l.count + k.count → l.count ≡ 0 → PointsJoin (run_left point_items a l) (run_left point_items b k) → ⊥
+  bad_last_b r is e h z = bad_b r is e (λ n. omega arith)
+
+  -- b's point is the next, below all of a's
+  from_b : (r : Option Point) (q : Point) (k' : Left) → r ≡ step_point k.least b k.at → r ≡ Some q → (k.count ≡ 0 → ⊥) → k' ≡ behind point_items k q → l.at ≤ length a
+      → PointsInOrder (key_of q + 1) (list_of (run_left point_items a l)) → NextPoint a l b k (record { point = q; changed = false }) l k'
+  from_b r q k' is found more rest w o = rw rest (record {
+    within_a = w;
+    within_b = point_within k.least b k.at q (sym is ∙ found);
+    fewer = omega arith;
+    next = rw (left_first point_items b k r is more q found)
+        (next_b q (run_left point_items a l) (run_left point_items b (behind point_items k q)) o (run_order (k.count - 1) (key_of q + 1) b (k.at + size_of q)));
+  })
 
   -- a has no point left
-  pub take_last_b : (q : Point) (size : ℕ) (r : PointStep) → r ≡ step_point low b at_b → r ≡ Next q size → at_a ≤ length a → 0 < left-a + left-b → left-a ≡ 0
-      → NextPoint low a at_a left-a b at_b left-b q size false at_a left-a (at_b + size) (left-b - 1)
-  take_last_b q size r is found w h z = from_b q size (sym is ∙ found) w (omega arith) (run_none left-a low (key_of q + 1) a at_a z)
+  pub take_last_b : (r : Option Point) (q : Point) (k' : Left) → r ≡ step_point k.least b k.at → r ≡ Some q → k' ≡ behind point_items k q → l.at ≤ length a → 0 < l.count + k.count → l.count ≡ 0
+      → NextPoint a l b k (record { point = q; changed = false }) l k'
+  take_last_b r q k' is found rest w h z = from_b r q k' is found (λ n. omega arith) rest w (order_none (key_of q + 1) a l z)
 
-  module _ (p : Point) (first-size : ℕ) (r : PointStep) (is : r ≡ step_point low a at_a) (found : r ≡ Next p first-size) (more : left-a ≡ 0 → ⊥)
-      (changed : Bool) (writes : changed ≡ puts_or_deletes p) where
-    -- a's step, and what it says
-    step_a : step_point low a at_a ≡ Next p first-size
-    step_a = sym is ∙ found
-
-    known_a : StepIs low a at_a p first-size
-    known_a = step_is low a at_a p first-size step_a
-
+  module _ (r : Option Point) (p : Point) (is : r ≡ step_point l.least a l.at) (found : r ≡ Some p) (more : l.count ≡ 0 → ⊥) (changed : Bool) (writes : changed ≡ puts_or_deletes p) where
     -- a's run
-    run_a : parse_points left-a low a at_a ≡ also p (parse_points (left-a - 1) (key_of p + 1) a (at_a + first-size))
-    run_a = run_here left-a low a at_a p first-size (omega arith) step_a
+    run_a : run_left point_items a l ≡ also p (run_left point_items a (behind point_items l p))
+    run_a = left_first point_items a l r is more p found
 
-    -- a's point is the next, and b's points are as they were
-    from_a : at_b ≤ length b → parse_points left-b (key_of p + 1) b at_b ≡ parse_points left-b low b at_b
-        → NextPoint low a at_a left-a b at_b left-b p first-size changed (at_a + first-size) (left-a - 1) at_b left-b
-    from_a w same =
-        record {
-          within_a = step_size low a at_a p first-size step_a;
-          within_b = w;
-          fewer = omega arith;
-          next = next_same _ _ _ _ _ _ p first-size changed run_a (sym same)
-              (next_a p (parse_points (left-a - 1) (key_of p + 1) a (at_a + first-size)) (parse_points left-b (key_of p + 1) b at_b) first-size changed
-              (run_order left-b (key_of p + 1) b at_b) writes known_a.size_is);
-        }
+    -- what is behind its first
+    order_a : PointsInOrder (key_of p + 1) (list_of (run_left point_items a (behind point_items l p)))
+    order_a = run_order (l.count - 1) (key_of p + 1) a (l.at + size_of p)
+
+    -- it stands within the bytes
+    behind_a : l.at + size_of p ≤ length a
+    behind_a = point_within l.least a l.at p (sym is ∙ found)
+
+    -- a's point is the next, below all of b's
+    from_a : (l' : Left) → l' ≡ behind point_items l p → k.at ≤ length b → PointsInOrder (key_of p + 1) (list_of (run_left point_items b k))
+        → NextPoint a l b k (record { point = p; changed = changed }) l' k
+    from_a l' rest w o = rw rest (record {
+      within_a = behind_a;
+      within_b = w;
+      fewer = omega arith;
+      next = rw run_a (next_a p (run_left point_items a (behind point_items l p)) (run_left point_items b k) changed order_a o writes);
+    })
 
     -- b has no point left
-    pub take_last_a : at_b ≤ length b → left-b ≡ 0 → NextPoint low a at_a left-a b at_b left-b p first-size changed (at_a + first-size) (left-a - 1) at_b left-b
-    take_last_a w z = from_a w (run_none left-b low (key_of p + 1) b at_b z)
+    pub take_last_a : (l' : Left) → l' ≡ behind point_items l p → k.at ≤ length b → k.count ≡ 0 → NextPoint a l b k (record { point = p; changed = changed }) l' k
+    take_last_a l' rest w z = from_a l' rest w (order_none (key_of p + 1) b k z)
 
-    module _ (q : Point) (size : ℕ) (s : PointStep) (is_b : s ≡ step_point low b at_b) (found-b : s ≡ Next q size) (more-b : left-b ≡ 0 → ⊥)
-        (k l : ℕ) (is-k : k ≡ key_of p) (is-l : l ≡ key_of q) where
-      -- b's step, and what it says
-      step_b : step_point low b at_b ≡ Next q size
-      step_b = sym is_b ∙ found-b
-
-      known_b : StepIs low b at_b q size
-      known_b = step_is low b at_b q size step_b
-
+    module _ (s : Option Point) (q : Point) (is_b : s ≡ step_point k.least b k.at) (found-b : s ≡ Some q) (more-b : k.count ≡ 0 → ⊥)
+        (x y : ℕ) (is-x : x ≡ key_of p) (is-y : y ≡ key_of q) where
       -- b's run
-      run_b : parse_points left-b low b at_b ≡ also q (parse_points (left-b - 1) (key_of q + 1) b (at_b + size))
-      run_b = run_here left-b low b at_b q size (omega arith) step_b
+      run_b : run_left point_items b k ≡ also q (run_left point_items b (behind point_items k q))
+      run_b = left_first point_items b k s is_b more-b q found-b
 
       -- a's key is lower
-      pub take_a : at_b ≤ length b → k < l → NextPoint low a at_a left-a b at_b left-b p first-size changed (at_a + first-size) (left-a - 1) at_b left-b
-      take_a w h = from_a w (run_raised left-b low (key_of p + 1) b at_b q size step_b (omega (arith, is-k, is-l)))
+      pub take_a : (l' : Left) → l' ≡ behind point_items l p → k.at ≤ length b → x < y → NextPoint a l b k (record { point = p; changed = changed }) l' k
+      take_a l' rest w h = from_a l' rest w (order_first (key_of p + 1) b k q run_b (omega (arith, is-x, is-y)))
 
       -- b's key is lower
-      pub take_b : at_a ≤ length a → l < k → NextPoint low a at_a left-a b at_b left-b q size false at_a left-a (at_b + size) (left-b - 1)
-      take_b w h = from_b q size step_b w (omega arith) (run_raised left-a low (key_of q + 1) a at_a p first-size step_a (omega (arith, is-k, is-l)))
+      pub take_b : (k' : Left) → k' ≡ behind point_items k q → l.at ≤ length a → y < x → NextPoint a l b k (record { point = q; changed = false }) l k'
+      take_b k' rest w h = from_b s q k' is_b found-b more-b rest w (order_first (key_of q + 1) a l p run_a (omega (arith, is-x, is-y)))
 
-      module _ (not-less : l ≤ k) (not_more : k ≤ l) where
-        -- one key
-        same_key : key_of p ≡ key_of q
-        same_key = omega (arith, is-k, is-l)
+      module _ (not_less : y ≤ x) (not_more : x ≤ y) where
+        -- neither is
+        same : key_of p ≡ key_of q
+        same = omega (arith, is-x, is-y)
 
         -- a puts or deletes it
-        pub take_clash : changed ≡ true → PointsJoin (parse_points left-a low a at_a) (parse_points left-b low b at_b) → ⊥
+        pub take_clash : changed ≡ true → PointsJoin (run_left point_items a l) (run_left point_items b k) → ⊥
         take_clash c j =
-            let ta : is_took (also p (parse_points (left-a - 1) (key_of p + 1) a (at_a + first-size))) ≡ true = ap is_took (sym run_a) ∙ j.took_a in
-            let tb : is_took (also q (parse_points (left-b - 1) (key_of q + 1) b (at_b + size))) ≡ true = ap is_took (sym run_b) ∙ j.took_b in
-            let e : clashes_named (list_of (parse_points left-a low a at_a)) (list_of (parse_points left-b low b at_b)) ≡ true =
-            ap (λ (z : Parsed Point). clashes_named (list_of z) (list_of (parse_points left-b low b at_b))) run_a
-            ∙ ap (λ (z : Parsed Point). clashes_named (list_of (also p (parse_points (left-a - 1) (key_of p + 1) a (at_a + first-size)))) (list_of z)) run_b
-            ∙ ap (λ (z : List Point). clashes_named z (list_of (also q (parse_points (left-b - 1) (key_of q + 1) b (at_b + size))))) (front_list p (parse_points (left-a - 1) (key_of p + 1) a (at_a + first-size)) ta)
-            ∙ ap (clashes_named (p ∷ list_of (parse_points (left-a - 1) (key_of p + 1) a (at_a + first-size)))) (front_list q (parse_points (left-b - 1) (key_of q + 1) b (at_b + size)) tb)
-            ∙ clash_here p q (list_of (parse_points (left-a - 1) (key_of p + 1) a (at_a + first-size))) (list_of (parse_points (left-b - 1) (key_of q + 1) b (at_b + size))) same_key (sym writes ∙ c) in
-            let z : true ≡ false = sym e ∙ j.clear in
-            let u : ◌≡◌ {A = ℕ} 0 1 = cc in
-            omega arith
+            let x : Parsed Point = run_left point_items a (behind point_items l p) in
+            let y : Parsed Point = run_left point_items b (behind point_items k q) in
+            let t : is_took (also p x) ≡ true = ap is_took (sym run_a) ∙ j.took_a in
+            let u : is_took (also q y) ≡ true = ap is_took (sym run_b) ∙ j.took_b in
+            let e : clashes_named (list_of (run_left point_items a l)) (list_of (run_left point_items b k)) ≡ true =
+            rw (run_a, run_b, front_list p x t, front_list q y u) (clash_here p q (list_of x) (list_of y) same (sym writes ∙ c)) in
+            let z = j.clear in
+            cc
 
-        -- the same in runs read from the key of the entry chosen
-        both : (f : Point) (n : ℕ) → changed ≡ false → f ≡ entry_of p q → n ≡ length (point_bytes f)
-            → NextPoint low a at_a left-a b at_b left-b f n changed (at_a + first-size) (left-a - 1) (at_b + size) (left-b - 1)
-        both f n c is_f is-n =
-            let kp : key_of f ≡ key_of p = ap key_of is_f ∙ key_entry p q same_key ∙ sym same_key in
-            record {
-              within_a = step_size low a at_a p first-size step_a;
-              within_b = step_size low b at_b q size step_b;
-              fewer = omega arith;
-              next = subst (λ (m : ℕ). PointNext (parse_points left-a low a at_a) (parse_points left-b low b at_b) (parse_points (left-a - 1) (m + 1) a (at_a + first-size)) (parse_points (left-b - 1) (m + 1) b (at_b + size)) f n changed) (sym kp)
-                  (subst (λ (m : ℕ). PointNext (parse_points left-a low a at_a) (parse_points left-b low b at_b) (parse_points (left-a - 1) (key_of p + 1) a (at_a + first-size)) (parse_points (left-b - 1) (m + 1) b (at_b + size)) f n changed) (sym same_key)
-                  (subst (λ (d : Bool). PointNext (parse_points left-a low a at_a) (parse_points left-b low b at_b) (parse_points (left-a - 1) (key_of p + 1) a (at_a + first-size)) (parse_points (left-b - 1) (key_of q + 1) b (at_b + size)) f n d) (sym c)
-                  (next_same _ _ _ _ _ _ f n false run_a run_b
-                  (next_both p q f (parse_points (left-a - 1) (key_of p + 1) a (at_a + first-size)) (parse_points (left-b - 1) (key_of q + 1) b (at_b + size)) n same_key (sym writes ∙ c) is_f
-                  (run_order (left-a - 1) (key_of p + 1) a (at_a + first-size)) (run_order (left-b - 1) (key_of q + 1) b (at_b + size)) is-n))));
-            }
-
-        -- b puts or deletes it: b's entry
-        pub take_both_b : (w : Bool) → w ≡ puts_or_deletes q → changed ≡ false → w ≡ true
-            → NextPoint low a at_a left-a b at_b left-b q size changed (at_a + first-size) (left-a - 1) (at_b + size) (left-b - 1)
-        take_both_b w is-w c t = both q size c (let g : puts_or_deletes q ≡ true = sym is-w ∙ t in rw g) known_b.size_is
-
-        -- b reads it: a's entry
-        pub take_both_a : (w : Bool) → w ≡ puts_or_deletes q → changed ≡ false → w ≡ false
-            → NextPoint low a at_a left-a b at_b left-b p first-size changed (at_a + first-size) (left-a - 1) (at_b + size) (left-b - 1)
-        take_both_a w is-w c t = both p first-size c (let g : puts_or_deletes q ≡ false = sym is-w ∙ t in rw g) known_a.size_is
+        -- a reads it: the entry chosen is the next
+        pub take_both : (e : Point) (l' k' : Left) → changed ≡ false → e ≡ entry_of p q → l' ≡ behind point_items l p → k' ≡ behind point_items k q
+            → NextPoint a l b k (record { point = e; changed = false }) l' k'
+        take_both e l' k' c is_e rest-a rest-b = rw (rest-a, rest-b) (record {
+          within_a = behind_a;
+          within_b = point_within k.least b k.at q (sym is_b ∙ found-b);
+          fewer = omega arith;
+          next = rw (run_a, run_b)
+              (next_both p q e (run_left point_items a (behind point_items l p)) (run_left point_items b (behind point_items k q)) same (sym writes ∙ c) is_e
+              order_a (run_order (k.count - 1) (key_of q + 1) b (k.at + size_of q)));
+        })

@@ -2,7 +2,7 @@
 -- One scan that two became covers what the two covered, since they share a key. From there each law is one of a single scan put in its place,
 -- and then one of all of b's scans, by recursion over them.
 -- Assumes nothing.
-use Prim.Native.Nat.{ℕ, ◌+◌, ◌^◌, ◌-◌, ◌≤◌, ◌<◌}
+use Prim.Native.Nat.{ℕ, ◌+◌, ◌^◌, ◌≤◌, ◌<◌}
 use mathlib.Core.Path.{◌≡◌, refl, sym, ap, ◌∙◌}
 use mathlib.Core.Bool.{Bool, true, false, ◌&&◌, ◌||◌, or-false, or_assoc}
 use mathlib.Core.List.{List, [], ◌∷◌}
@@ -34,66 +34,38 @@ covers_below j k c l = simp (lt-leb c.low j l)
 covers_above : (j k : ℕ) (c : Scan) → c.high < k → covers j k c ≡ false
 covers_above j k c h = by_case (leb c.low j) (λ e. simp (e, lt-leb k c.high h)) (λ e. simp e)
 
--- m is the lower of two numbers
-pub record LowerOf (a b m : ℕ) : Type 0 where
-  pub below_first : m ≤ a
-  pub below_second : m ≤ b
-  pub greatest : (k : ℕ) → k ≤ a → k ≤ b → k ≤ m
-
--- m is the higher of two numbers
-pub record HigherOf (a b m : ℕ) : Type 0 where
-  pub above_first : a ≤ m
-  pub above_second : b ≤ m
-  pub least : (k : ℕ) → a ≤ k → b ≤ k → m ≤ k
-
--- the one scan of two starts at the lower low
-pub one_low : (c d : Scan) → LowerOf c.low d.low (one_scan c d).low
-one_low c d =
-    by_case (leb c.low d.low)
-    (λ e. simp e (record { below_first = omega arith; below_second = leb-true c.low d.low e; greatest = λ k x y. x }))
-    (λ e. simp e (record { below_first = omega (arith, leb-false c.low d.low e); below_second = omega arith; greatest = λ k x y. y }))
-
--- and ends at the higher high
-pub one_high : (c d : Scan) → HigherOf c.high d.high (one_scan c d).high
-one_high c d =
-    by_case (leb c.high d.high)
-    (λ e. simp e (record { above_first = leb-true c.high d.high e; above_second = omega arith; least = λ k x y. y }))
-    (λ e. simp e (record { above_first = omega arith; above_second = omega (arith, leb-false c.high d.high e); least = λ k x y. x }))
-
 -- two scans that share a key cover together what the one scan of them covers, as far as a key or two neighbours are concerned
 pub one_covers : (j k : ℕ) (c d : Scan) → k ≤ j + 1 → d.low ≤ c.high → c.low ≤ d.high → covers j k (one_scan c d) ≡ (covers j k c || covers j k d)
 one_covers j k c d near s t =
-    let l : LowerOf c.low d.low (one_scan c d).low = one_low c d in
-    let h : HigherOf c.high d.high (one_scan c d).high = one_high c d in
     by_case (leb c.low j)
     (λ a.
     let a' = leb-true c.low j a in
     by_case (leb k c.high)
     (λ b.
     let b' = leb-true k c.high b in
-    covers_in j k (one_scan c d) (omega (arith, a', l.below_first)) (omega (arith, b', h.above_first))
+    covers_in j k (one_scan c d) (omega (arith, a')) (omega (arith, b'))
     ∙ simp (covers_in j k c a' b'))
     (λ b.
     let b' = leb-false k c.high b in
     by_case (leb k d.high)
     (λ e.
     let e' = leb-true k d.high e in
-    covers_in j k (one_scan c d) (omega (arith, a', l.below_first)) (omega (arith, e', h.above_second))
+    covers_in j k (one_scan c d) (omega (arith, a')) (omega (arith, e'))
     ∙ simp (covers_above j k c b', covers_in j k d (omega (arith, s, b', near)) e'))
     (λ e.
     let e' = leb-false k d.high e in
-    covers_above j k (one_scan c d) (omega (arith, h.least (k - 1) (omega (arith, b')) (omega (arith, e')), b'))
+    covers_above j k (one_scan c d) (omega (arith, b', e'))
     ∙ simp (covers_above j k c b', covers_above j k d e'))))
     (λ a.
     let a' = leb-false c.low j a in
     by_case (leb d.low j)
     (λ b.
     let b' = leb-true d.low j b in
-    covers_in j k (one_scan c d) (omega (arith, b', l.below_second)) (omega (arith, a', t, near, h.above_second))
+    covers_in j k (one_scan c d) (omega (arith, b')) (omega (arith, a', t, near))
     ∙ simp (covers_below j k c a', covers_in j k d b' (omega (arith, a', t, near))))
     (λ b.
     let b' = leb-false d.low j b in
-    covers_below j k (one_scan c d) (omega (arith, l.greatest (j + 1) (omega (arith, a')) (omega (arith, b'))))
+    covers_below j k (one_scan c d) (omega (arith, a', b'))
     ∙ simp (covers_below j k c a', covers_below j k d b')))
 
 -- THE KEYS
@@ -118,9 +90,7 @@ scans_with j k c (d ∷ ds) near h u =
     by_case (ltb d.high c.low)
     (λ b. simp (a, b, scans_with j k c ds near h u.1) (or_swap (covers j k d) (covers j k c) (in_one_scan j k ds))) λ b.
     let t : c.low ≤ d.high = ltb-false d.high c.low b in
-    let l : (one_scan c d).low ≤ c.low = (one_low c d).below_first in
-    let m : c.high ≤ (one_scan c d).high = (one_high c d).above_first in
-    simp (a, b) (scans_with j k (one_scan c d) ds near (omega (arith, h, l, m)) u.1
+    simp (a, b) (scans_with j k (one_scan c d) ds near (omega (arith, h)) u.1
     ∙ ap (λ (x : Bool). x || in_one_scan j k ds) (one_covers j k c d near s t) ∙ or_assoc (covers j k c) (covers j k d) (in_one_scan j k ds))
 
 -- APART
@@ -143,11 +113,9 @@ apart_with low c (d ∷ ds) l h f r =
     (λ b.
     let s = ltb-true d.high c.low b in
     simp (a, b) (r.0, r.1, r.2, apart_with (d.high + 1) c ds (omega (arith, s)) h f r.3)) λ b.
-    let m : LowerOf c.low d.low (one_scan c d).low = one_low c d in
-    let n : HigherOf c.high d.high (one_scan c d).high = one_high c d in
-    let o : low ≤ (one_scan c d).low = m.greatest low l r.0 in
-    let p : (one_scan c d).low ≤ (one_scan c d).high = omega (arith, m.below_first, n.above_first, h) in
-    let q : (one_scan c d).high < 2 ^ 32 = omega (arith, n.least (2 ^ 32 - 1) (omega (arith, f)) (omega (arith, r.2))) in
+    let o : low ≤ (one_scan c d).low = omega (arith, r.0) in
+    let p : (one_scan c d).low ≤ (one_scan c d).high = omega arith in
+    let q : (one_scan c d).high < 2 ^ 32 = omega (arith, r.2) in
     let t : Apart low ds = apart_lower low (d.high + 1) ds (omega (arith, r.0, r.1)) r.3 in
     simp (a, b) (apart_with low (one_scan c d) ds o p q t)
 

@@ -1,12 +1,12 @@
 -- Which of b's scans are still ahead of a key: those that end below it are passed over, and then the first one alone can cover it.
 -- Assumes nothing.
 use Prim.Native.Nat.{ℕ, zero, suc, ◌+◌, ◌*◌, ◌-◌, ◌≤◌, ◌<◌}
-use mathlib.Core.Bool.{Bool, true, false, ◌&&◌, ◌||◌}
+use mathlib.Core.Bool.{Bool, true, false, not, ◌&&◌, ◌||◌}
 use mathlib.Core.Path.{◌≡◌, refl, sym, ap, ◌∙◌}
 use mathlib.Core.List.{List, [], ◌∷◌}
 use native.Mathlib.Omega.{arith}
 use lib.ListN.{length}
-use lib.Dec.{leb, ltb}
+use lib.Dec.{leb, ltb, eqb}
 use borrow.Author.Tests.{le-leb, lt-leb, ltb-true, ltb-false}
 use Rattle.words.specs.Word.{word}
 use Rattle.record.specs.declared.point.Point.{Point}
@@ -21,8 +21,7 @@ use Rattle.joiner.proofs.PointJoin.{and_false}
 -- none is left
 ahead_none : (n : ℕ) (bs : List ℕ) → n ≡ 0 → last_scans n bs ≡ []
 unfolding last_scans
-ahead_none zero bs e = refl
-ahead_none (suc n) bs e = absurd (omega arith)
+ahead_none n bs e = rw e
 
 -- the first of those that are left
 ahead_first : (n : ℕ) (bs : List ℕ) → (n ≡ 0 → ⊥) → last_scans n bs ≡ scan_in bs (length bs - 8 * n) ∷ last_scans (n - 1) bs
@@ -33,17 +32,17 @@ ahead_first (suc n) bs e = let z : n ≡ suc n - 1 = omega arith in ap (λ (m : 
 module _ (n key : ℕ) (bs : List ℕ) where
   -- ENDS_BELOW AND STARTS_BY
 
-  pub ends_none : n ≡ 0 → false ≡ ends_below key (last_scans n bs)
-  ends_none e = sym (ap (ends_below key) (ahead_none n bs e))
+  pub ends_none : n ≡ 0 → not (eqb n 0) ≡ ends_below key (last_scans n bs)
+  ends_none e = rw (ahead_none n bs e, e)
 
-  pub starts_none : n ≡ 0 → false ≡ starts_by key (last_scans n bs)
-  starts_none e = sym (ap (starts_by key) (ahead_none n bs e))
+  pub starts_none : n ≡ 0 → not (eqb n 0) ≡ starts_by key (last_scans n bs)
+  starts_none e = rw (ahead_none n bs e, e)
 
   pub ends_here : (h : ℕ) → h ≡ word 4 bs (length bs - 8 * n + 4) → (n ≡ 0 → ⊥) → ltb h key ≡ ends_below key (last_scans n bs)
-  ends_here h is e = ap (λ (x : ℕ). ltb x key) is ∙ sym (ap (ends_below key) (ahead_first n bs e))
+  ends_here h is e = rw (ahead_first n bs e, is)
 
   pub starts_here : (h : ℕ) → h ≡ word 4 bs (length bs - 8 * n) → (n ≡ 0 → ⊥) → leb h key ≡ starts_by key (last_scans n bs)
-  starts_here h is e = ap (λ (x : ℕ). leb x key) is ∙ sym (ap (starts_by key) (ahead_first n bs e))
+  starts_here h is e = rw (ahead_first n bs e, is)
 
   -- PASS_SCANS
 
@@ -124,9 +123,3 @@ pub clash_not_below : (k low : ℕ) (ps : List Point) (cs : List Scan) → k ≤
 clash_not_below k low [] cs h o = refl
 clash_not_below k low (p ∷ ps) cs h o =
     rw (key_not_below k (key_of p) cs (omega (arith, o.0)), clash_not_below k (key_of p + 1) ps cs (omega (arith, o.0)) o.1)
-
--- SCANNED
-
--- a does not put or delete the key, or it does and the test decides
-pub scanned_by : (changed : Bool) (t : Bool) (b : Bool) → changed ≡ true → b ≡ t → b ≡ (changed && t)
-scanned_by changed t b c e = e ∙ rw c

@@ -1,6 +1,6 @@
 -- The record that two records make (R57), and when two records can be joined (R56). a is the first of the two, b the second.
 -- Assumes nothing: these are definitions.
-use Rattle.std.specs.Prelude.{ℕ, Bool, true, false, not, ◌&&◌, ◌||◌, List, [], ◌∷◌, length, leb, ltb, eqb}
+use Rattle.std.specs.Prelude.{ℕ, Bool, true, false, not, ◌&&◌, ◌||◌, List, [], ◌∷◌, length, min, max, leb, ltb, eqb}
 use Rattle.std.proofs.Math.Option.{Option, none, some}
 use Rattle.std.specs.Prelude.{if◌then◌else◌}
 use Rattle.record.specs.declared.point.Point.{Point}
@@ -37,8 +37,7 @@ joined_points ps (q ∷ qs) = joined_points (with_point q ps) qs
 
 -- R57: from the lower low to the higher high
 abbrev pub one_scan : Scan → Scan → Scan
-one_scan c d =
-    record { low = (if leb c.low d.low then c.low else d.low); high = (if leb c.high d.high then d.high else c.high) }
+one_scan c d = record { low = min c.low d.low; high = max c.high d.high }
 
 -- R57: the scan c in its place among scans that lie apart: each of them that shares a key with it becomes one with it
 unfoldable pub with_scan : Scan → List Scan → List Scan

@@ -2,10 +2,13 @@
 -- Assumes nothing.
 use Prim.Native.Nat.{ℕ, ◌-◌, ◌≤◌, ◌<◌}
 use mathlib.Core.Path.{◌≡◌, sym, ap, ◌∙◌}
-use mathlib.Core.Bool.{true, false, not}
+use mathlib.Core.Bool.{true, false}
+use Rattle.std.specs.Prelude as Code
+use Rattle.std.specs.Prelude.{None}
+use Rattle.std.specs.Option.{is_some}
 use mathlib.Core.List.{List}
 use native.Mathlib.Omega.{arith}
-use borrow.Author.Tests.{lt-ltb, le-ltb, eq-eqb, ne_eqb}
+use borrow.Author.Tests.{lt-ltb, le-ltb}
 use Rattle.record.specs.declared.point.Scan.{Scan}
 use Rattle.nodes.specs.declared.header.Header.{Header}
 use Rattle.nodes.specs.Nodes.{header_at}
@@ -14,11 +17,11 @@ use Rattle.rules.specs.Lists.{any}
 use Rattle.rules.specs.Verdict.{Verdict, committed, conflict, too_old, ahead, hits, refusal_or}
 use Rattle.rules.specs.Tree.{Tree, tree_of, walk}
 use Rattle.rules.proofs.Search.{walk_found}
-use Rattle.pool.specs.Plan.{no_node}
 use Rattle.pool.specs.Image.{Arrangement, Image, state_of}
 use Rattle.conflict_search.specs.declared.Searched.{Searched}
 use Rattle.conflict_search.specs.Conflict.{leaves_or, first_hit, conflict_in}
 use Rattle.conflict_search.proofs.Answer.{names_leaf, named_found}
+use Rattle.conflict_search.proofs.Hit.{no_some}
 use Rattle.judge.specs.declared.judged.Named.{Named}
 use Rattle.judge.specs.Judged.{judged, judged_of, leaf_for, named_in}
 
@@ -31,7 +34,7 @@ named_any s f i = named_found s f i ∙ ap (λ (t : Tree). (walk s f t).found) i
 -- THE RETURNS
 
 -- an answer with its looks, and a leaf
-abbrev named : Verdict → ℕ → ℕ → Named
+abbrev named : Verdict → ℕ → Code.Option ℕ → Named
 named v n leaf = record { judged = judged v n; leaf = leaf }
 
 module _ (m : List ℕ) (s : ℕ) (f : List Scan) (h : Header) (eh : h ≡ header_at m) where
@@ -41,12 +44,12 @@ module _ (m : List ℕ) (s : ℕ) (f : List Scan) (h : Header) (eh : h ≡ heade
   zone_is : (A : Arrangement) → Image m A → h.zone ≡ A.Z
   zone_is A i = ap (λ (x : Header). x.zone) (eh ∙ i.header)
 
-  pub is_ahead : h.position < s → (A : Arrangement) → Image m A → named ahead 0 no_node ≡ named_in A s f
+  pub is_ahead : h.position < s → (A : Arrangement) → Image m A → named ahead 0 None ≡ named_in A s f
   unfolding named_in judged_of refusal_or
   is_ahead l A i = let x : A.p < s = omega (arith, position_is A i) in rw (lt-ltb A.p s x)
 
   module _ (not_ahead : s ≤ h.position) where
-    pub is_too_old : h.zone < h.position - s → (A : Arrangement) → Image m A → named too_old 0 no_node ≡ named_in A s f
+    pub is_too_old : h.zone < h.position - s → (A : Arrangement) → Image m A → named too_old 0 None ≡ named_in A s f
     unfolding named_in judged_of refusal_or
     is_too_old l A i =
         let x : s ≤ A.p = omega (arith, position_is A i) in
@@ -68,15 +71,16 @@ module _ (m : List ℕ) (s : ℕ) (f : List Scan) (h : Header) (eh : h ≡ heade
       named_is : (A : Arrangement) → Image m A → names_leaf w ≡ any (hits s f) (state_of A).kept
       named_is A i = ap names_leaf (ew A i) ∙ named_any s f i
 
-      pub is_conflict : (w.leaf ≡ no_node → ⊥) → (A : Arrangement) → Image m A → named conflict w.looks w.leaf ≡ named_in A s f
+      -- what is told if a leaf was found, and if none was
+      pub is_conflict : is_some w.leaf ≡ true → (A : Arrangement) → Image m A → named conflict w.looks w.leaf ≡ named_in A s f
       is_conflict d A i =
-          let x : any (hits s f) (state_of A).kept ≡ true = sym (named_is A i) ∙ ap not (ne_eqb w.leaf no_node d) in
+          let x : any (hits s f) (state_of A).kept ≡ true = sym (named_is A i) ∙ d in
           sym (tests A i ∙ rw x)
 
-      pub is_free : w.leaf ≡ no_node → (A : Arrangement) → Image m A → named committed w.looks no_node ≡ named_in A s f
-      is_free e A i =
-          let x : any (hits s f) (state_of A).kept ≡ false = sym (named_is A i) ∙ ap not (eq-eqb w.leaf no_node e) in
-          sym (tests A i ∙ rw x)
+      pub is_free : is_some w.leaf ≡ false → (A : Arrangement) → Image m A → named committed w.looks w.leaf ≡ named_in A s f
+      is_free d A i =
+          let x : any (hits s f) (state_of A).kept ≡ false = sym (named_is A i) ∙ d in
+          sym (tests A i ∙ rw (x, no_some w.leaf d))
 
 -- WITHOUT THE LEAF
 

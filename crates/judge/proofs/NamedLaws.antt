@@ -1,13 +1,15 @@
 -- The leaf that `judge_and_name` names with a conflict is that of the smallest key in conflict.
 -- Assumes nothing.
 use Prim.Native.Nat.{ℕ, ◌-◌}
-use mathlib.Core.Path.{◌≡◌, refl, sym, ap, ◌∙◌, subst}
+use mathlib.Core.Path.{◌≡◌, refl, sym, ap, ◌∙◌}
 use mathlib.Core.Bool.{Bool, true, false}
 use mathlib.Core.List.{List}
 use native.Mathlib.Omega.{arith}
 use lib.Dec.{T, ltb}
 use Rattle.record.specs.declared.point.Scan.{Scan}
-use Rattle.std.specs.Prelude.{if◌then◌else◌}
+use Rattle.std.specs.Prelude as Code
+use Rattle.std.specs.Prelude.{if◌then◌else◌, Some}
+use Rattle.std.proofs.lemmas.Option.{none-some}
 use Rattle.rules.specs.State.{State}
 use Rattle.rules.specs.Verdict.{Verdict, committed, conflict, too_old, no_room, malformed, ahead, positions_used_up, verdict_answer, hits, conflicts_at, refusal_or}
 use Rattle.rules.proofs.Tests.{of_any}
@@ -45,10 +47,28 @@ module _ (m : List ℕ) (s : ℕ) (f : List Scan) (x : Named) (is : (A : Arrange
   unfolding named_in judged_of
   says_conflict A i = one_is_conflict (refusal_or (state_of A) s f committed) (sym (ap (λ (y : Named). y.judged.answer.number) (is A i)) ∙ one)
 
-  pub named_smallest : (A : Arrangement) → Image m A → NamedLeaf m A s f x.leaf
+  pub named_smallest : (A : Arrangement) → Image m A → (j : ℕ) × (x.leaf ≡ Some j) × NamedLeaf m A s f j
   unfolding named_in
   named_smallest A i =
       let v = says_conflict A i in
       let y = of_any (hits s f) (state_of A).kept (conflict_there (state_of A) s f v) in
-      let at : x.leaf ≡ first_hit s f (leaves_or A.tree) = ap (λ (z : Named). z.leaf) (is A i) ∙ ap (leaf_for (first_hit s f (leaves_or A.tree))) v in
-      subst (NamedLeaf m A s f) (sym at) (named_least i s f y.0 y.1 y.2)
+      let least = named_least i s f y.0 y.1 y.2 in
+      (least.0, ap (λ (z : Named). z.leaf) (is A i) ∙ ap (leaf_for (first_hit s f (leaves_or A.tree))) v ∙ least.1, least.2)
+
+-- a leaf is named only with a conflict
+pub named_conflict : (m : List ℕ) (s : ℕ) (f : List Scan) (x : Named) → ((A : Arrangement) → Image m A → x ≡ named_in A s f)
+    → (j : ℕ) → x.leaf ≡ Some j → (A : Arrangement) → Image m A → x.judged.answer.number ≡ 1
+unfolding named_in judged_of
+named_conflict m s f x is j e A i =
+    let y = is A i in
+    let v = refusal_or (state_of A) s f committed in
+    ap (λ (z : Named). z.judged.answer.number) y ∙ ap (λ (w : Verdict). (verdict_answer w).number) (only_conflict (first_hit s f (leaves_or A.tree)) v (sym (ap (λ (z : Named). z.leaf) y) ∙ e))
+  where
+    only_conflict : (o : Code.Option ℕ) (v : Verdict) → leaf_for o v ≡ Some j → v ≡ conflict
+    only_conflict o conflict q = refl
+    only_conflict o committed q = absurd (none-some j q)
+    only_conflict o too_old q = absurd (none-some j q)
+    only_conflict o no_room q = absurd (none-some j q)
+    only_conflict o malformed q = absurd (none-some j q)
+    only_conflict o ahead q = absurd (none-some j q)
+    only_conflict o positions_used_up q = absurd (none-some j q)

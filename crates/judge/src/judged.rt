@@ -1,11 +1,11 @@
 // What meld, refresh and explain ask first of a record that is well formed.
 ghost use Rattle.std.specs.Prelude.{◌≡◌};
 ghost use Rattle.pool.specs.Image.{Arrangement, Image, Fit, state_of};
-ghost use Rattle.conflict_search.specs.Sorted.{Sorted, footprint};
-ghost use Rattle.judge.specs.Judged.{judged_of, named_in};
+ghost use Rattle.conflict_search.specs.Sorted.{footprint};
+ghost use Rattle.judge.specs.Judged.{unsearched, judged_of, named_in};
 
-use conflict_search::conflict;
-use nodes::{NO_NODE, read_header};
+use conflict_search::{Footprint, Searched, conflict};
+use nodes::read_header;
 use record::Answer;
 
 #[derive(Clone, Copy)]
@@ -19,64 +19,48 @@ pub struct Judged {
 #[derive(Clone, Copy)]
 pub struct Named {
     pub judged: Judged,
-    // With 1 the number of the leaf that is the conflict, else NO_NODE.
-    pub leaf: u32,
+    // With 1 the number of the leaf that is the conflict, else none.
+    pub leaf: Option<u32>,
+}
+
+// An answer given before the search.
+fn refused(answer: Answer) -> Named
+    ensures { result ≡ unsearched answer }
+{
+    Named {
+        judged: Judged { answer, looks: 0 },
+        leaf: None,
+    }
 }
 
 // Judges a snapshot and a footprint by the state that a fit pool means, and names the leaf that is the conflict.
-pub fn judge_and_name(
-    pool: &[u8],
-    snapshot: u32,
-    keys: &[u32],
-    lows: &[u32],
-    highs: &[u32],
-) -> Named
-    requires { Fit pool.now × Sorted keys.now lows.now highs.now }
-    ensures { (A : Arrangement) → Image pool.now A → result ≡ named_in A snapshot (footprint keys.now lows.now highs.now) }
+pub fn judge_and_name(pool: &[u8], snapshot: u32, lists: &Footprint<'_>) -> Named
+    requires { Fit pool.now }
+    ensures { (A : Arrangement) → Image pool.now A → result ≡ named_in A snapshot (footprint lists.now.keys.now lists.now.lows.now lists.now.highs.now) }
 {
     let h = read_header(pool);
     if h.position < snapshot {
-        return Named {
-            judged: Judged {
-                answer: Answer::AHEAD,
-                looks: 0,
-            },
-            leaf: NO_NODE,
-        };
+        return refused(Answer::AHEAD);
     }
     if h.zone < h.position - snapshot {
-        return Named {
-            judged: Judged {
-                answer: Answer::TOO_OLD,
-                looks: 0,
-            },
-            leaf: NO_NODE,
-        };
+        return refused(Answer::TOO_OLD);
     }
-    let walked = conflict(pool, snapshot, keys, lows, highs);
-    if walked.leaf != NO_NODE {
-        return Named {
-            judged: Judged {
-                answer: Answer::CONFLICT,
-                looks: walked.looks,
-            },
-            leaf: walked.leaf,
-        };
-    }
+    let Searched { leaf, looks } = conflict(pool, snapshot, lists);
+    let answer = if leaf.is_some() {
+        Answer::CONFLICT
+    } else {
+        Answer::COMMITTED
+    };
     Named {
-        judged: Judged {
-            answer: Answer::COMMITTED,
-            looks: walked.looks,
-        },
-        leaf: NO_NODE,
+        judged: Judged { answer, looks },
+        leaf,
     }
 }
 
 // The same without the leaf.
-pub fn judge(pool: &[u8], snapshot: u32, keys: &[u32], lows: &[u32], highs: &[u32]) -> Judged
-    requires { Fit pool.now × Sorted keys.now lows.now highs.now }
-    ensures { (A : Arrangement) → Image pool.now A → result ≡ judged_of (state_of A) snapshot (footprint keys.now lows.now highs.now) }
+pub fn judge(pool: &[u8], snapshot: u32, lists: &Footprint<'_>) -> Judged
+    requires { Fit pool.now }
+    ensures { (A : Arrangement) → Image pool.now A → result ≡ judged_of (state_of A) snapshot (footprint lists.now.keys.now lists.now.lows.now lists.now.highs.now) }
 {
-    let named = judge_and_name(pool, snapshot, keys, lows, highs);
-    named.judged
+    judge_and_name(pool, snapshot, lists).judged
 }

@@ -1,38 +1,16 @@
 -- The calls over a part: one law for each way in which the loop that makes them goes on or ends.
 -- Assumes nothing.
-use Rattle.std.proofs.Common.{◌≡◌, ℕ, ◌+◌, ◌-◌, ◌%◌, ◌^◌, ◌<◌, ◌≤◌, Bool, true, false, not, ◌⊎◌, List, [], ◌∷◌, ◌++◌, length, take, drop, sym, refl, ap, ◌∙◌, subst, inl, inr, ⊎_elim, true≢false, arith, length-append, length-drop, take_all}
-use borrow.Author.Tests.{not-true, not-false}
-use denote.Enum.Declared.{tag_of}
-use types.Run.{OneOf}
+use Rattle.std.proofs.Common.{◌≡◌, ℕ, ◌+◌, ◌-◌, ◌%◌, ◌^◌, ◌<◌, ◌≤◌, true, false, ◌⊎◌, List, [], ◌∷◌, ◌++◌, length, take, drop, sym, refl, ap, ◌∙◌, subst, inl, inr, true≢false, arith, length-append, length-drop, take_all}
 use Rattle.record.specs.declared.answer.Answer.{Answer}
 use Rattle.pages.specs.declared.told.Happened.{Happened}
 use Rattle.pages.specs.declared.told.Happened.TheVariants.{Decided, Refused, More, End}
 use Rattle.pages.specs.declared.told.Fed.{Fed}
 use Rattle.pages.specs.Pages.{Feeds}
-use Rattle.pages.specs.contracts.told.Happened as T
 use Rattle.pages.proofs.Progress.{takes_within, gets_on}
 use Rattle.meld.specs.declared.melding.Melded.{Melded}
 use Rattle.demands.specs.Feeding.{verdict_in, verdicts_in}
 use Rattle.demands.proofs.FedOn.{verdicts_append}
-use Rattle.lines.specs.declared.parts.Going.{Going}
-use Rattle.lines.specs.Parts.{on_by, goes_on_by, CallsOver, none_yet, one_more, PartCalls, all_taken, stops, PartFed}
-
--- WHAT IS TOLD OF A CALL
-
--- no record was decided: the position stays
-pub not_decided : (h : Happened) (looks position : ℕ) → position < 2 ^ 64 → OneOf (1 ∷ 2 ∷ 3 ∷ []) (tag_of T.the_type h) → position ≡ on_by position (length (verdict_in h looks))
-not_decided (Decided a) looks position b o = absurd (⊎_elim (λ e. omega arith) (λ p. ⊎_elim (λ e. omega arith) (λ e. omega arith) p) o)
-not_decided (Refused a) looks position b o = omega arith
-not_decided More looks position b o = omega arith
-not_decided End looks position b o = omega arith
-
--- one was: the next position
-pub one_decided : (h : Happened) (looks position : ℕ) (a : Answer) (r : ℕ) → h ≡ Decided a → r ≡ (position + 1) % 2 ^ 64 → r ≡ on_by position (length (verdict_in h looks))
-one_decided h looks position a r e q = q ∙ ap (λ (x : Happened). on_by position (length (verdict_in x looks))) (sym e)
-
--- the log does not go on behind a refusal
-refused_stops : (h : Happened) (a : Answer) → h ≡ Refused a → goes_on_by h ≡ true → ⊥
-refused_stops h a e t = true≢false (sym t ∙ ap goes_on_by e)
+use Rattle.lines.specs.Parts.{on_by, goes_on_by, CallsOver, none_yet, one_more, all_taken, stops, PartFed}
 
 -- THE CALLS SO FAR
 
@@ -62,8 +40,8 @@ count_more rs r =
 pub rest_lent : (part : List ℕ) (place : ℕ) → take (length part - place) (drop place part) ≡ drop place part
 rest_lent part place = take_all (length part - place) (drop place part) (omega (arith, length-drop place part))
 
-module _ (part : List ℕ) (position : ℕ) (m carry : List ℕ) (carried place : ℕ) (m' carry' : List ℕ) (carried' here : ℕ)
-    (s : SoFar part position m carry carried place m' carry' carried' here) (r : Fed) (m'' carry'' : List ℕ)
+module _ {part : List ℕ} {position : ℕ} {m carry : List ℕ} {carried place : ℕ} {m' carry' : List ℕ} {carried' here : ℕ}
+    (s : SoFar part position m carry carried place m' carry' carried' here) {r : Fed} {m'' carry'' : List ℕ}
     (fed : Feeds m' carry' carried' (take (length part - place) (drop place part)) false r m'' carry'') where
   -- a call on the rest of the part
   on_rest : Feeds m' carry' carried' (drop place part) false r m'' carry''
@@ -73,29 +51,60 @@ module _ (part : List ℕ) (position : ℕ) (m carry : List ℕ) (carried place 
   pub within : place + r.taken ≤ length part
   within = omega (arith, takes_within on_rest, length-drop place part, s.inside)
 
-  module _ (there : ℕ) (t : there ≡ on_by here (length (verdict_in r.happened r.looks))) (b : Bool) (e : b ≡ goes_on_by r.happened) where
-    counted : there ≡ on_by position (length (verdicts_in (s.calls ++ (r ∷ []))))
-    counted =
-        on_by_lem position (length (verdicts_in s.calls)) (length (verdict_in r.happened r.looks)) here there s.position_is t
-        ∙ ap (on_by position) (sym (count_more s.calls r))
+  -- where the log goes on, something is taken
+  pub gets_nearer : goes_on_by r.happened ≡ true → place < length part → 1 ≤ r.taken
+  gets_nearer g l = elim (gets_on on_rest (omega (arith, length-drop place part))) [
+    | inl h ↦ h
+    | inr (inl q) ↦ no q
+    | inr (inr (inl q)) ↦ no q
+    | inr (inr (inr (inl q))) ↦ no q
+    | inr (inr (inr (inr q))) ↦ no q
+  ]
+    where
+      no : {a : Answer} → r.happened ≡ Refused a → 1 ≤ r.taken
+      no q = absurd (true≢false (sym g ∙ ap goes_on_by q))
 
-    -- the log goes on, and something was taken
-    pub gone_on : not b ≡ false → place < length part → (SoFar part position m carry carried (place + r.taken) m'' carry'' r.carried there) × (1 ≤ r.taken)
-    gone_on n l =
-        let g : goes_on_by r.happened ≡ true = sym e ∙ not-false b n in (
-          record { calls = s.calls ++ (r ∷ []); made = one_more s.made on_rest g; inside = within; position_is = counted },
-          ⊎_elim (λ h. h)
-              (λ w. absurd (⊎_elim (λ q. refused_stops r.happened _ q g) (λ v. ⊎_elim (λ q. refused_stops r.happened _ q g)
-              (λ x. ⊎_elim (λ q. refused_stops r.happened _ q g) (λ q. refused_stops r.happened _ q g) x) v) w))
-              (gets_on on_rest (omega (arith, length-drop place part))),
-        )
+  -- the records decided are counted on by those of this call
+  counted : (there : ℕ) → there ≡ on_by here (length (verdict_in r.happened r.looks)) → there ≡ on_by position (length (verdicts_in (s.calls ++ (r ∷ []))))
+  counted there t =
+      on_by_lem position (length (verdicts_in s.calls)) (length (verdict_in r.happened r.looks)) here there s.position_is t
+      ∙ ap (on_by position) (sym (count_more s.calls r))
 
-    -- it does not
-    pub stopped : not b ≡ true → PartFed part position m carry carried m'' carry'' (record { carried = r.carried; position = there; stopped = true })
-    stopped n = record { calls = s.calls ++ (r ∷ []); made = stops s.made on_rest (sym e ∙ not-true b n); position_is = counted }
+  -- the log goes on behind what was said, with so many records more
+  goes_on : (h : Happened) → r.happened ≡ h → goes_on_by h ≡ true → (there : ℕ) → there ≡ on_by here (length (verdict_in h r.looks))
+      → SoFar part position m carry carried (place + r.taken) m'' carry'' r.carried there
+  goes_on h e g there t =
+      record {
+        calls = s.calls ++ (r ∷ []);
+        made = one_more s.made on_rest (ap goes_on_by e ∙ g);
+        inside = within;
+        position_is = counted there (t ∙ ap (λ (x : Happened). on_by here (length (verdict_in x r.looks))) (sym e));
+      }
+
+  -- a record was decided
+  pub decided : (a : Answer) → r.happened ≡ Decided a → SoFar part position m carry carried (place + r.taken) m'' carry'' r.carried ((here + 1) % 2 ^ 64)
+  decided a e = goes_on (Decided a) e refl ((here + 1) % 2 ^ 64) refl
+
+  -- more is wanted
+  pub waits : here < 2 ^ 64 → r.happened ≡ More → SoFar part position m carry carried (place + r.taken) m'' carry'' r.carried here
+  waits small e = goes_on More e refl here (omega arith)
+
+  -- the log does not go on
+  pub stopped : here < 2 ^ 64 → ((a : Answer) × (r.happened ≡ Refused a)) ⊎ (r.happened ≡ End)
+      → PartFed part position m carry carried m'' carry'' (record { carried = r.carried; position = here; stopped = true })
+  stopped small said = elim said [ inl (a, e) ↦ ends_by (Refused a) e refl (omega arith) | inr e ↦ ends_by End e refl (omega arith) ]
+    where
+      ends_by : (h : Happened) → r.happened ≡ h → goes_on_by h ≡ false → here ≡ on_by here (length (verdict_in h r.looks))
+          → PartFed part position m carry carried m'' carry'' (record { carried = r.carried; position = here; stopped = true })
+      ends_by h e g t =
+          record {
+            calls = s.calls ++ (r ∷ []);
+            made = stops s.made on_rest (ap goes_on_by e ∙ g);
+            position_is = counted here (t ∙ ap (λ (x : Happened). on_by here (length (verdict_in x r.looks))) (sym e));
+          }
 
 -- nothing is left of the part
-pub ends : (part : List ℕ) (position : ℕ) (m carry : List ℕ) (carried place : ℕ) (m' carry' : List ℕ) (carried' here : ℕ)
+pub ends : {part : List ℕ} {position : ℕ} {m carry : List ℕ} {carried place : ℕ} {m' carry' : List ℕ} {carried' here : ℕ}
     → SoFar part position m carry carried place m' carry' carried' here → length part ≤ place
     → PartFed part position m carry carried m' carry' (record { carried = carried'; position = here; stopped = false })
-ends part position m carry carried place m' carry' carried' here s h = record { calls = s.calls; made = all_taken s.made h; position_is = s.position_is }
+ends s h = record { calls = s.calls; made = all_taken s.made h; position_is = s.position_is }

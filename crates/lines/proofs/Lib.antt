@@ -1,4 +1,3 @@
-mod Endings
 pub mod Openings
 pub mod Limits
 mod Calling

@@ -1,13 +1,12 @@
 -- From the calls that the programs make to the runs of the theorems (R49): a part fed, then more parts, then the log over.
 -- The idea: lent a fit pool and a carry that may be, a call behind which the log does not go on says 11.
 -- Assumes nothing.
-use Rattle.std.proofs.Common.{◌≡◌, ℕ, ◌+◌, ◌≤◌, Bool, true, false, eqb, List, [], ◌∷◌, ◌++◌, length, drop, sym, refl, ap, ◌∙◌, subst, true≢false, append_assoc, append-nil, arith, drop_of_length-le, drop-drop, ne_eqb, eqb-true}
-use mathlib.Core.Option.{Option, none, some}
+use Rattle.std.proofs.Common.{◌≡◌, ℕ, Bool, true, false, eqb, List, [], ◌∷◌, ◌++◌, length, drop, sym, refl, ap, ◌∙◌, subst, true≢false, append_assoc, append-nil, arith, drop_of_length-le, drop-drop, ne_eqb, eqb-true}
+use mathlib.Core.Option.{none, some}
 use Rattle.record.specs.Answer.{committed, torn_log, impossible_length}
 use Rattle.record.proofs.Cases.{by_case, no_some}
 use Rattle.record_log.specs.declared.found.Cut.{Cut}
 use Rattle.record_log.specs.declared.found.Cut.TheVariants as Cuts
-use Rattle.record_log.specs.Walk.{joined}
 use Rattle.pool.specs.Image.{Fit}
 use Rattle.create.specs.Fresh.{Created}
 use Rattle.pages.specs.declared.told.Happened.{Happened}

@@ -1,7 +1,8 @@
 -- A log fed part by part, with a line for each record decided (R41, R47).
 -- Assumes nothing: these are definitions.
 use Rattle.std.specs.Prelude.{◌≡◌, ℕ, ◌+◌, ◌%◌, ◌^◌, ◌≤◌, Bool, true, false, List, [], ◌∷◌, ◌++◌, length, drop, ◌==◌}
-use Rattle.words.specs.Choice.{value_or}
+use Rattle.std.specs.Prelude.{Option as Optional, Some, None}
+use Rattle.std.proofs.Math.Option.{Option, none, some}
 use Rattle.std.specs.Prelude.{if◌then◌else◌}
 use Rattle.record.specs.declared.answer.Answer.{Answer}
 use Rattle.record.specs.Answer.{committed, impossible_length}
@@ -61,9 +62,14 @@ closed_by (Refused a) = refused_by a
 closed_by More = Cuts.Torn
 closed_by End = Cuts.End
 
--- the answer that is printed behind the last record (R41): what the rules say of what stands there, and 0 where they have no number for it
-abbrev pub ending_answer : Cut → Answer
-ending_answer c = value_or committed (cut_told c).answer
+-- an answer that there may be, as the code has it
+abbrev pub answer_told : Option Answer → Optional Answer
+answer_told none = None
+answer_told (some a) = Some a
+
+-- the answer that is printed behind the last record (R41): what the rules say of what stands there, none where they have no number for it
+abbrev pub ending_answer : Cut → Optional Answer
+ending_answer c = answer_told (cut_told c).answer
 
 -- the call that is told the log is over, with no byte more
 pub record Finishes (m carry : List ℕ) (carried : ℕ) (m' carry' : List ℕ) (found : Cut) : Type 0 where

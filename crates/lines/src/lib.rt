@@ -7,7 +7,7 @@ pub mod output;
 pub mod parts;
 pub mod printing;
 
-pub use opening::{Asked, HEAD, open};
+pub use opening::{HEAD, open};
 pub use output::Output;
 pub use parts::{Going, feed_part, finish};
 pub use printing::{Line, ending_answer, print_answer, print_ending, print_line};

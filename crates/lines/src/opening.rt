@@ -9,18 +9,8 @@ use words::word4;
 // The bytes in front of the log.
 pub const HEAD: usize = 8;
 
-// What opening an input answers, 0 or 9, and the size of the pool at the front of the bytes lent.
-#[derive(Clone, Copy)]
-pub struct Asked {
-    pub answer: Answer,
-    pub size: usize,
-}
-
 // The answer to an input that asks for no pool of the program.
-const REFUSED: Asked = Asked {
-    answer: Answer::BAD_LIMITS,
-    size: 0,
-};
+const REFUSED: Answer = Answer::BAD_LIMITS;
 
 // The bytes of a pool for N keys.
 fn size_for(n: u32) -> usize
@@ -29,23 +19,26 @@ fn size_for(n: u32) -> usize
     64 + 64 * (n as usize)
 }
 
-// Creates the pool that an input's first eight bytes ask for, at the front of the bytes lent, with the answer of `create`; 9 and no byte
-// changed for fewer than eight bytes, an N above the program's largest, or too few bytes lent.
-pub fn open(pool: &mut [u8], head: &[u8], most: u32) -> Asked
+// Creates the pool that an input's first eight bytes ask for, at the front of the bytes lent, and gives its size; or the answer 9 of `create`, and
+// for fewer than eight bytes, an N above the program's largest, or too few bytes lent: then no byte is changed.
+pub fn open(pool: &mut [u8], head: &[u8], most: u32) -> Result<usize, Answer>
     ensures { Opens most pool.old head.now result pool.new }
 {
     if head.len() < HEAD {
-        return REFUSED;
+        return Err(REFUSED);
     }
     let n = word4(head, 0);
     let z = word4(head, 4);
     if n > most {
-        return REFUSED;
+        return Err(REFUSED);
     }
     let size = size_for(n);
     if pool.len() < size {
-        return REFUSED;
+        return Err(REFUSED);
     }
     let answer = create(&mut pool[..size], n, z);
-    Asked { answer, size }
+    if answer != Answer::COMMITTED {
+        return Err(answer);
+    }
+    Ok(size)
 }

@@ -2,8 +2,7 @@
 
 // The log reader: it holds the lent log and its own place in it, and hands out one record after the other. Every function over
 // it takes the reader apart and leaves the work to `record_log::cut` and `record_log::part`, on a slice and a number.
-ghost use Rattle.std.specs.Prelude.{◌≡◌};
-ghost use Rattle.record_log.specs.Log.{place_after, HandedOut};
+ghost use Rattle.record_log.specs.Log.{HandedOut};
 ghost use Rattle.log_reader.specs.LogReader.{Opened, PlaceIs, Stepped, Moved};
 
 use record_log::{Cut, cut, part};
@@ -28,18 +27,6 @@ pub struct Move {
     pub place: usize,
 }
 
-// The place past a record that was found; the same place where none was.
-fn place_after(found: Cut, place: usize) -> usize
-    ensures { result ≡ place_after found place }
-{
-    match found {
-        Cut::End => place,
-        Cut::Torn => place,
-        Cut::Impossible => place,
-        Cut::Record(next) => next,
-    }
-}
-
 impl<'a> LogReader<'a> {
     // A reader of the lent log that stands at its first byte.
     pub fn new(log: &'a [u8]) -> LogReader<'a>
@@ -49,7 +36,7 @@ impl<'a> LogReader<'a> {
     }
 
     // The reader's place in the log. The reader stays there.
-    pub fn place<'s>(&'s self) -> usize
+    pub fn place(&self) -> usize
         ensures { PlaceIs self.now result }
     {
         self.place
@@ -57,14 +44,14 @@ impl<'a> LogReader<'a> {
 
     // One step: at a record the part handed out is that record and the reader moves past it; at the end, in a torn log
     // and at an impossible length the part is empty and the reader stays.
-    pub fn step<'s>(&'s mut self) -> Step<'a>
+    pub fn step(&mut self) -> Step<'a>
         ensures { Stepped self.old self.new result }
     {
-        let log = self.log;
-        let place = self.place;
-        let found = cut(log, place);
-        let part = part(log, place);
-        self.place = place_after(found, place);
+        let found = cut(self.log, self.place);
+        let part = part(self.log, self.place);
+        if let Cut::Record(next) = found {
+            self.place = next;
+        }
         Step { found, part }
     }
 }

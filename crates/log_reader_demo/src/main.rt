@@ -9,11 +9,11 @@ ghost use Rattle.std.specs.Prelude.{◌≡◌};
 ghost use Rattle.record_log.specs.Log.{cut_at, place_after};
 
 use log_reader::LogReader;
-use record::Scan;
+use record::{Answer, Scan};
 use record_log::Cut;
 use std::io;
 
-// The word that a line begins with.
+// The word that a line begins with. It is this program's own: the lines of the other programs have other words.
 fn word_for(found: Cut) -> &'static str {
     match found {
         Cut::End => "end",
@@ -58,10 +58,11 @@ fn written<P: Print>(rt: &P, low: u32, high: u32) -> io::Result<()> {
     let keys = [30u32; 1];
     let payloads = [300u64; 1];
     let scan = Scan { low, high };
-    let written = pairs::write_one(1, &kinds, &keys, &payloads, scan, &mut output);
-    let answer = written.answer.number;
-    let size = written.size;
-    print!(rt; "{answer} {size}")?;
+    let (answer, size) = match pairs::write_one(1, &kinds, &keys, &payloads, scan, &mut output) {
+        Ok(size) => (Answer::COMMITTED, size),
+        Err(answer) => (answer, 0),
+    };
+    print!(rt; "{} {size}", answer.number)?;
     bytes(rt, &output)?;
     println!(rt)
 }

@@ -1,6 +1,6 @@
 -- The arrangement that a record leaves is one of the state that the rules leave.
 -- Assumes nothing.
-use Prim.Native.Nat.{ℕ, ◌+◌, ◌-◌, ◌≤◌, ◌<◌}
+use Prim.Native.Nat.{◌+◌, ◌-◌, ◌≤◌, ◌<◌}
 use mathlib.Core.Path.{◌≡◌, refl, sym, ap, ◌∙◌, subst}
 use mathlib.Core.Bool.{Bool, true, false}
 use mathlib.Core.Option.{Option, none, some}
@@ -39,16 +39,16 @@ pub record PassedChecks (S : State) (m : Option Rec) : Type 0 where
 
 -- of the verdict's tests the first and the last are read off
 first_and_last : (a b c d e : Bool) → (if a then positions_used_up else (if b then ahead else (if c then too_old else (if d then conflict else (if e then no_room else committed))))) ≡ committed → (a ≡ false) × (e ≡ false)
-first_and_last true b c d e h = let z : ◌≡◌ {A = ℕ} 0 1 = cc in absurd (omega arith)
-first_and_last false true c d e h = let z : ◌≡◌ {A = ℕ} 0 1 = cc in absurd (omega arith)
-first_and_last false false true d e h = let z : ◌≡◌ {A = ℕ} 0 1 = cc in absurd (omega arith)
-first_and_last false false false true e h = let z : ◌≡◌ {A = ℕ} 0 1 = cc in absurd (omega arith)
-first_and_last false false false false true h = let z : ◌≡◌ {A = ℕ} 0 1 = cc in absurd (omega arith)
+first_and_last true b c d e h = absurd (cc)
+first_and_last false true c d e h = absurd (cc)
+first_and_last false false true d e h = absurd (cc)
+first_and_last false false false true e h = absurd (cc)
+first_and_last false false false false true h = absurd (cc)
 first_and_last false false false false false h = (refl, refl)
 
 none_commits : (a : Bool) → (if a then positions_used_up else malformed) ≡ committed → ⊥
-none_commits true h = let z : ◌≡◌ {A = ℕ} 0 1 = cc in omega arith
-none_commits false h = let z : ◌≡◌ {A = ℕ} 0 1 = cc in omega arith
+none_commits true h = cc
+none_commits false h = cc
 
 pub passed_checks : (S : State) (m : Option Rec) → verdict S m ≡ committed → PassedChecks S m
 unfolding verdict judge refusal_or

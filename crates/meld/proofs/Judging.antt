@@ -6,12 +6,10 @@ use mathlib.Core.Logic.{◌⊎◌, inl, inr}
 use mathlib.Core.Bool.{Bool, true, false}
 use mathlib.Core.Option.{Option, none, some}
 use mathlib.Core.List.{List}
-use native.Mathlib.Omega.{arith}
 use lib.ListN.{length}
 use lib.Dec.{ltb, leb}
 use borrow.Author.Tests.{ltb-false, lt-leb}
 use Rattle.record.specs.declared.point.Point.{Point}
-use Rattle.record.specs.declared.answer.Answer.{Answer}
 use Rattle.record.specs.Answer as Names
 use Rattle.record.specs.Record.{Rec, Valid}
 use Rattle.std.specs.Prelude.{if◌then◌else◌}
@@ -116,14 +114,14 @@ module _ (S : State) (r : Rec) where
     where
       go : (b : Bool) → ltb S.N (count S r.points) ≡ b → said_by (TooLittle n) ≡ said (count S r.points) b (drops S r.points) → TooMany S r.points n
       go true q h = let d : ◌≡◌ {A = Option ℕ} (some n) (some (count S r.points)) = ap (λ (x : RoomSaid). x.keys) h in record { over = q; counted = cc }
-      go false q h = let d : ◌≡◌ {A = Option Answer} (some Names.no_room) none = ap (λ (x : RoomSaid). x.number) h in let z : ◌≡◌ {A = ℕ} 0 1 = cc in absurd (omega arith)
+      go false q h = let d = ap (λ (x : RoomSaid). x.number) h in absurd (cc)
 
   pub after_drop : said_by AfterDrop ≡ room_in S r.points → FitsLean S r.points
   unfolding room_in
   after_drop e = go (ltb S.N (count S r.points)) refl e
     where
       go : (b : Bool) → ltb S.N (count S r.points) ≡ b → said_by AfterDrop ≡ said (count S r.points) b (drops S r.points) → FitsLean S r.points
-      go true q h = let d : ◌≡◌ {A = Option Answer} none (some Names.no_room) = ap (λ (x : RoomSaid). x.number) h in let z : ◌≡◌ {A = ℕ} 0 1 = cc in absurd (omega arith)
+      go true q h = let d = ap (λ (x : RoomSaid). x.number) h in absurd (cc)
       go false q h = record { over = sym (ap (λ (x : RoomSaid). x.drops_first) h); fits = ltb-false S.N (count S r.points) q; tested = q }
 
   pub enough : Lawful S → Valid r → said_by Enough ≡ room_in S r.points → FitsWhole S r
@@ -131,7 +129,7 @@ module _ (S : State) (r : Rec) where
   enough l v e = go (ltb S.N (count S r.points)) refl e
     where
       go : (b : Bool) → ltb S.N (count S r.points) ≡ b → said_by Enough ≡ said (count S r.points) b (drops S r.points) → FitsWhole S r
-      go true q h = let d : ◌≡◌ {A = Option Answer} none (some Names.no_room) = ap (λ (x : RoomSaid). x.number) h in let z : ◌≡◌ {A = ℕ} 0 1 = cc in absurd (omega arith)
+      go true q h = let d = ap (λ (x : RoomSaid). x.number) h in absurd (cc)
       go false q h =
           let d : drops S r.points ≡ false = sym (ap (λ (x : RoomSaid). x.drops_first) h) in
           record { fits = ltb-false S.N (length (whole S r.points)) (sym (drop_count l v) ∙ d); under = d; tested = q }

@@ -5,8 +5,8 @@ use mathlib.Core.Path.{◌≡◌, refl, sym, ap, ◌∙◌}
 use mathlib.Core.Bool.{Bool, true, false, not}
 use mathlib.Core.List.{List}
 use mathlib.Core.Option.{Option, none, some}
-use native.Mathlib.Omega.{arith}
 use borrow.Author.Tests.{not-true, not-false}
+use Rattle.std.proofs.lemmas.Bool.{both_ways}
 use Rattle.words.specs.Choice.{value_or}
 use Rattle.record.specs.declared.answer.Answer.{Answer}
 use Rattle.record.specs.Answer.{unfit_pool}
@@ -26,11 +26,7 @@ now_fit m b d e = d.sound (not-false b e)
 
 -- it said no, and so there is none
 pub not_fit : (m : List ℕ) (b : Bool) → Decides (Fit m) b → not b ≡ true → Fit m → ⊥
-not_fit m b d e f =
-    let x : b ≡ false = not-true b e in
-    let y : b ≡ true = d.complete f in
-    let z : ◌≡◌ {A = ℕ} 0 1 = cc in
-    omega arith
+not_fit m b d e f = both_ways b (not-true b e) (d.complete f)
 
 -- WHAT IS TOLD TELLS THE CASE
 
@@ -75,9 +71,6 @@ lookup_number m k r h = (
     unnumbered (found x w) = refl
 
 -- THE RETURNS
-
-pub unfit_lookup : (m : List ℕ) (k : ℕ) (b : Bool) → Decides (Fit m) b → not b ≡ true → LooksUp m k Unfit
-unfit_lookup m k b d e = record { fit = λ A i. absurd (not_fit m b d e (record { arrangement = A; image = i })); unfit = λ _. refl }
 
 pub fit_lookup : (m : List ℕ) (k : ℕ) (b : Bool) → Decides (Fit m) b → not b ≡ false → (f : Found.Found) → ((A : Arrangement) → Image m A → f ≡ found_in k (state_of A).kept)
     → (r : Lookup) → r ≡ lookup_of (seen_as f) → LooksUp m k r

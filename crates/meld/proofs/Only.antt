@@ -3,7 +3,9 @@
 use Prim.Native.Nat.{ℕ}
 use mathlib.Core.Path.{◌≡◌, sym, ◌∙◌}
 use mathlib.Core.List.{List}
+use Rattle.std.specs.Prelude.{Result}
 use Rattle.words.specs.Word.{Bytes}
+use Rattle.record.specs.declared.answer.Answer.{Answer}
 use Rattle.record.specs.Parse.{parse}
 use Rattle.pool.specs.Image.{Fit}
 use Rattle.pool.proofs.Fixed.{one_image}
@@ -37,7 +39,7 @@ only_lookup m k r q lent a b = go (fit_or_not m lent)
     go (no n) = lookup_told_apart r q (a.unfit n ∙ sym (b.unfit n))
 
 -- no second status, for any bytes lent as pool
-pub only_status : (m : List ℕ) (r q : Status) → Bytes m → StatusIs m r → StatusIs m q → r ≡ q
+pub only_status : (m : List ℕ) (r q : Result Status Answer) → Bytes m → StatusIs m r → StatusIs m q → r ≡ q
 only_status m r q lent a b = go (fit_or_not m lent)
   where
     go : Dec (Fit m) → r ≡ q

@@ -3,27 +3,26 @@
 use Prim.Native.Nat.{ℕ, ◌≤◌, ◌<◌}
 use mathlib.Core.Path.{◌≡◌, refl, ap, ◌∙◌}
 use mathlib.Core.Logic.{⊎_elim}
-use mathlib.Core.Bool.{Bool, true, false, not, ◌&&◌}
+use mathlib.Core.Bool.{Bool, true, false, ◌&&◌}
 use mathlib.Core.List.Memᴰ.{head as here}
 use mathlib.Core.List.Memᴰ.{tail as there}
 use mathlib.Core.List.{List, [], ◌∷◌, Memᴰ as Mem}
 use native.Mathlib.Omega.{arith}
 use lib.ListN.{length}
 use borrow.Author.Tests.{le-leb}
-use Rattle.record.specs.Answer.{committed}
 use Rattle.nodes.specs.declared.header.Header.{Header}
 use Rattle.nodes.specs.Nodes.{header_at}
 use Rattle.rules.specs.Lists.{keep}
 use Rattle.rules.specs.State.{Entry}
 use Rattle.rules.proofs.Tests.{le_or_lt}
 use Rattle.pool.specs.Image.{Arrangement, Image, Fit, state_of, header_of}
-use Rattle.fit.specs.Whole.{Decides}
 use Rattle.drop.specs.Old.{old}
 use Rattle.drop.specs.Spot.{UpTo}
 use Rattle.drop.proofs.Olds.{old_few}
+use Rattle.std.specs.Prelude.{Result, Ok}
+use Rattle.record.specs.declared.answer.Answer.{Answer}
 use Rattle.meld.specs.declared.kept.Status.{Status}
-use Rattle.meld.specs.Statuses.{is_tombstone, status_of, no_status, StatusIs}
-use Rattle.meld.proofs.Lookups.{not_fit}
+use Rattle.meld.specs.Statuses.{is_tombstone, status_of, StatusIs}
 
 -- ALL OF THEM ARE COUNTED
 
@@ -47,26 +46,13 @@ counted_all most k r h u = ⊎_elim (λ (x : most ≤ r). omega (arith, u.at_mos
 
 -- THE RETURNS
 
-pub unfit_status : (m : List ℕ) (b : Bool) → Decides (Fit m) b → not b ≡ true → StatusIs m no_status
-unfit_status m b d e = record { fit = λ A i. absurd (not_fit m b d e (record { arrangement = A; image = i })); unfit = λ _. refl }
-
--- a fit pool is long enough for a header
-pub long_enough : (m : List ℕ) → Fit m → 64 ≤ length m
-long_enough m f = omega (arith, f.image.size)
-
--- and has a limit of at least 1
-pub some_limit : (m : List ℕ) → Fit m → (h : Header) → h ≡ header_at m → 1 ≤ h.limit
-some_limit m f h e =
-    let q : h.limit ≡ f.arrangement.N = ap (λ (x : Header). x.limit) (e ∙ f.image.header) in
-    omega (arith, f.image.arranged.lawful.limit_N)
-
 pub fit_status : (m : List ℕ) → Fit m → (h : Header) → h ≡ header_at m → (n : ℕ)
     → ((A : Arrangement) → Image m A → UpTo h.limit (length (keep (old h.position) (state_of A).kept)) n)
-    → StatusIs m (record { answer = committed; limit = h.limit; zone = h.zone; position = h.position; kept = h.kept; tombstones = n })
+    → StatusIs m (Ok (record { limit = h.limit; zone = h.zone; position = h.position; kept = h.kept; tombstones = n }))
 fit_status m f h eh n u = record { fit = at; unfit = λ no. absurd (no f) }
   where
     at : (A : Arrangement) → Image m A
-        → ◌≡◌ {A = Status} (record { answer = committed; limit = h.limit; zone = h.zone; position = h.position; kept = h.kept; tombstones = n }) (status_of (state_of A))
+        → ◌≡◌ {A = Result Status Answer} (Ok (record { limit = h.limit; zone = h.zone; position = h.position; kept = h.kept; tombstones = n })) (Ok (status_of (state_of A)))
     at A i =
         let e : h ≡ header_of A = eh ∙ i.header in
         let l : h.limit ≡ A.N = ap (λ (x : Header). x.limit) e in
@@ -75,4 +61,4 @@ fit_status m f h eh n u = record { fit = at; unfit = λ no. absurd (no f) }
         let a : keep (old h.position) es ≡ keep is_tombstone es = all_old h.position es (λ d x. omega (arith, p, i.arranged.lawful.positions d x)) in
         let c : length (keep (old h.position) es) ≤ h.limit = omega (arith, old_few h.position es, i.arranged.lawful.few, l) in
         let t : n ≡ length (keep is_tombstone es) = counted_all h.limit (length (keep (old h.position) es)) n c (u A i) ∙ ap length a in
-        λ j. record { answer = committed; limit = (e j).limit; zone = (e j).zone; position = (e j).position; kept = (e j).kept; tombstones = t j }
+        λ j. Ok (record { limit = (e j).limit; zone = (e j).zone; position = (e j).position; kept = (e j).kept; tombstones = t j })

@@ -25,7 +25,7 @@ use Rattle.conflict_search.specs.Sorted.{Sorted, footprint}
 use Rattle.conflict_search.proofs.Reach.{sorted_valid, footprint_reach}
 use Rattle.drop.specs.Old.{stays}
 use Rattle.drop.specs.Drop.{drop_in}
-use Rattle.advance.specs.Moved.{moved_on, PositionsLeft}
+use Rattle.advance.specs.Moved.{moved_on}
 use Rattle.drop.proofs.Olds.{keep_young}
 use Rattle.judge.specs.declared.judged.Judged.{Judged}
 use Rattle.judge.specs.Judged.{judged_of}
@@ -33,7 +33,7 @@ use Rattle.room.specs.declared.room.Room.{Room}
 use Rattle.room.specs.declared.room.Room.TheVariants.{Enough, AfterDrop, TooLittle}
 use Rattle.room.specs.Tally.{Settles}
 use Rattle.room.proofs.Counts.{length_settled}
-use Rattle.room.specs.Room.{said_by, room_in, Writable, RoomIs}
+use Rattle.room.specs.Room.{said_by, room_in, RoomIs}
 use Rattle.commit.specs.Applied.{writes_in, store_in}
 use Rattle.commit.specs.Commit.{old_at, commit_in, commit_lean, Committable, all_kept, not_old}
 use Rattle.meld.specs.After.{committed_in, left_in, after_in}
@@ -41,7 +41,7 @@ use Rattle.meld.specs.Lists.{Names as NamesOf, Meldable, MeldsLists}
 use Rattle.meld.proofs.Settled.{settled_writes}
 use Rattle.meld.proofs.Judging.{Stops, at_ahead, at_too_old, at_conflict, Decided, Open, decided, too_little, after_drop, enough}
 
-module _ (m : List ℕ) (s : ℕ) (kinds ks xs ls hs : List ℕ) (pre : Meldable m s kinds ks xs ls hs) where
+module _ {m : List ℕ} {s : ℕ} {kinds ks xs ls hs : List ℕ} (pre : Meldable m s kinds ks xs ls hs) where
   -- WHAT THE CALLS ASK
 
   pub is_fit : Fit m
@@ -51,20 +51,6 @@ module _ (m : List ℕ) (s : ℕ) (kinds ks xs ls hs : List ℕ) (pre : Meldable
   are_sorted =
       let n = pre.names in
       rw (n.keys_are, n.lows_are, n.highs_are) (sorted_valid n.valid)
-
-  pub has_position : PositionsLeft m
-  has_position = record { arrangement = pre.arrangement; image = pre.image; more = pre.left }
-
-  pub is_writable : Writable m kinds ks
-  is_writable =
-      let n = pre.names in
-      record {
-        left = subst (λ (p : ℕ). p < last_position) (sym (ap (λ (h : Header). h.position) pre.image.header)) pre.left;
-        r = pre.r;
-        valid = n.valid;
-        kinds_are = n.kinds_are;
-        keys_are = n.keys_are;
-      }
 
   -- THE STATE
 
@@ -118,9 +104,6 @@ module _ (m : List ℕ) (s : ℕ) (kinds ks xs ls hs : List ℕ) (pre : Meldable
           not_zero too_old at_too_old e = omega arith
           not_zero conflict at_conflict e = omega arith
 
-      answer_zero : (A : Arrangement) → Image m A → (r : Rec) → NamesOf s kinds ks xs ls hs r → j.answer ≡ Names.committed
-      answer_zero A i r n = (open_way A i r n).answer_is
-
       module _ (a : Room) (ea : RoomIs m kinds ks a) (kinds' : List ℕ) (settles : Settles m kinds ks kinds') where
         room_is : (A : Arrangement) → Image m A → (r : Rec) → NamesOf s kinds ks xs ls hs r → (b : Room) → a ≡ b → said_by b ≡ room_in (state_of A) r.points
         room_is A i r n b e = ap said_by (sym e) ∙ ea A i r n.valid n.kinds_are n.keys_are
@@ -166,14 +149,14 @@ module _ (m : List ℕ) (s : ℕ) (kinds ks xs ls hs : List ℕ) (pre : Meldable
               room = subst (λ (ws : List Entry). length (store_all ws (state_of A).kept) ≤ A.N) (sym (writes_are A pre.image pre.r n)) f.fits;
             }
 
-        pub whole_melds : (m' : List ℕ) → a ≡ Enough → ((A : Arrangement) → Image m A → Image m' (commit_in kinds' ks xs A)) → MeldsLists m s kinds ks xs ls hs m' (record { answer = j.answer; looks = j.looks })
+        pub whole_melds : (m' : List ℕ) → a ≡ Enough → ((A : Arrangement) → Image m A → Image m' (commit_in kinds' ks xs A)) → MeldsLists m s kinds ks xs ls hs m' (record { answer = Names.committed; looks = j.looks })
         unfolding after_in committed_in
         whole_melds m' e left A i r n =
             let x = open_way A i r n in
             let f = enough (state_of A) r i.arranged.lawful n.valid (room_is A i r n Enough e) in
             let v : verdict (state_of A) (some r) ≡ committed = x.is ∙ rw f.tested in
             let l : Image m' (store_in (moved_on A) (writes_of (state_of A) r.points)) = subst (λ (ws : List Entry). Image m' (store_in (moved_on A) ws)) (writes_are A i r n) (left A i) in
-            record { verdict_is = rw (x.looks_is, v, x.answer_is); leaves = rw (v, f.under) l }
+            record { verdict_is = rw (x.looks_is, v); leaves = rw (v, f.under) l }
 
         -- THE OLD TOMBSTONES DROPPED FIRST
 
@@ -196,11 +179,11 @@ module _ (m : List ℕ) (s : ℕ) (kinds ks xs ls hs : List ℕ) (pre : Meldable
               room = subst (λ (ws : List Entry). length (store_all ws (keep (stays (old_at A)) (state_of A).kept)) ≤ A.N) (sym (writes_are A pre.image pre.r n)) c;
             }
 
-        pub lean_melds : (m' : List ℕ) → a ≡ AfterDrop → ((A : Arrangement) → Image m A → Image m' (commit_lean kinds' ks xs A)) → MeldsLists m s kinds ks xs ls hs m' (record { answer = j.answer; looks = j.looks })
+        pub lean_melds : (m' : List ℕ) → a ≡ AfterDrop → ((A : Arrangement) → Image m A → Image m' (commit_lean kinds' ks xs A)) → MeldsLists m s kinds ks xs ls hs m' (record { answer = Names.committed; looks = j.looks })
         unfolding after_in committed_in
         lean_melds m' e left A i r n =
             let x = open_way A i r n in
             let f = after_drop (state_of A) r (room_is A i r n AfterDrop e) in
             let v : verdict (state_of A) (some r) ≡ committed = x.is ∙ rw f.tested in
             let l : Image m' (store_in (drop_in (old_at A) (moved_on A)) (writes_of (state_of A) r.points)) = subst (λ (ws : List Entry). Image m' (store_in (drop_in (old_at A) (moved_on A)) ws)) (writes_are A i r n) (left A i) in
-            record { verdict_is = rw (x.looks_is, v, x.answer_is); leaves = rw (v, f.over) l }
+            record { verdict_is = rw (x.looks_is, v); leaves = rw (v, f.over) l }

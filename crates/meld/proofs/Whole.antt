@@ -18,7 +18,7 @@ use Rattle.rules.specs.Verdict.{positions_used_up as isUsedUp}
 use Rattle.rules.specs.Tree.{looks_of}
 use Rattle.rules.proofs.Near.{verdict_last}
 use Rattle.pool.specs.Image.{Arrangement, Image, Fit, state_of}
-use Rattle.advance.specs.Moved.{moved_on, PositionsLeft}
+use Rattle.advance.specs.Moved.{moved_on}
 use Rattle.fit.specs.Whole.{Decides}
 use Rattle.meld.specs.declared.melding.Melded.{Melded}
 use Rattle.meld.specs.After.{after_in}
@@ -40,9 +40,6 @@ module _ (m bs : List ℕ) (h : Header) (eh : h ≡ header_at m) where
   module _ (fit : Fit m) (d : h.position ≡ 4294967295 → ⊥) where
     more : (A : Arrangement) → Image m A → A.p < last_position
     more A i = let x : A.p ≡ 4294967295 → ⊥ = λ e. d (position_is A i ∙ e) in omega (arith, i.arranged.lawful.last)
-
-    pub has_left : PositionsLeft m
-    has_left = record { arrangement = fit.arrangement; image = fit.image; more = more fit.arrangement fit.image }
 
     -- the bytes are no record
     pub is_malformed : parse bs ≡ none → (m' : List ℕ) → ((A : Arrangement) → Image m A → Image m' (moved_on A)) → MeldsFit m bs m' (record { answer = malformed; looks = 0 })

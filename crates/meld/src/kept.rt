@@ -1,7 +1,7 @@
 // What a pool tells of what it keeps.
-use record::Answer;
 
-// What a lookup finds.
+// What a lookup finds. An enum of its own, and no `Result` of an `Option`: a definition gives each of its cases a number and values, `lookup_told`
+// (docs/DECISIONS.md, D48).
 #[derive(Clone, Copy)]
 pub enum Lookup {
     // 7: the pool is not fit.
@@ -12,11 +12,9 @@ pub enum Lookup {
     Found { payload: u64, position: u32 },
 }
 
-// 7 and nothing but zeros for an unfit pool; else 0, with the limits N and Z, the position, how many keys are kept, and how many of these are
-// tombstones.
+// The limits N and Z, the position, how many keys are kept, and how many of these are tombstones.
 #[derive(Clone, Copy)]
 pub struct Status {
-    pub answer: Answer,
     pub limit: u32,
     pub zone: u32,
     pub position: u32,

@@ -5,7 +5,8 @@ ghost use Rattle.meld.specs.Lists.{Meldable, MeldsLists};
 use crate::melding::Melded;
 use advance::advance;
 use commit::{commit_after_drop, commit_writes};
-use judge::judge;
+use conflict_search::Footprint;
+use judge::{Judged, judge};
 use record::Answer;
 use room::{Room, room_for};
 
@@ -23,28 +24,24 @@ pub fn meld_lists(
     requires { Meldable pool.old snapshot kinds.old keys.now payloads.now lows.now highs.now }
     ensures { MeldsLists pool.old snapshot kinds.old keys.now payloads.now lows.now highs.now pool.new result }
 {
-    let judged = judge(pool, snapshot, keys, lows, highs);
-    let answer = judged.answer;
-    let looks = judged.looks;
-    if answer.number != Answer::COMMITTED.number {
+    let Judged { answer, looks } = judge(pool, snapshot, &Footprint { keys, lows, highs });
+    if answer != Answer::COMMITTED {
         advance(pool);
         return Melded { answer, looks };
     }
-    match room_for(pool, kinds, keys) {
+    let answer = match room_for(pool, kinds, keys) {
         Room::TooLittle { keys: _ } => {
             advance(pool);
-            Melded {
-                answer: Answer::NO_ROOM,
-                looks,
-            }
+            Answer::NO_ROOM
         }
         Room::AfterDrop => {
             commit_after_drop(pool, kinds, keys, payloads);
-            Melded { answer, looks }
+            Answer::COMMITTED
         }
         Room::Enough => {
             commit_writes(pool, kinds, keys, payloads);
-            Melded { answer, looks }
+            Answer::COMMITTED
         }
-    }
+    };
+    Melded { answer, looks }
 }

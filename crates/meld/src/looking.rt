@@ -8,13 +8,15 @@ use find::{Found, find};
 use fit::fit;
 
 // What a fit pool's state holds under a key.
-fn seen(found: Found) -> Lookup
-    ensures { result ≡ lookup_of (seen_as found) }
-{
-    match found {
-        Found::Absent => Lookup::Absent,
-        Found::Tombstone { position: _ } => Lookup::Absent,
-        Found::Live { payload, position } => Lookup::Found { payload, position },
+impl From<Found> for Lookup {
+    ghost from_gives = { λ found lookup. lookup ≡ lookup_of (seen_as found) };
+
+    fn from(found: Found) -> Lookup {
+        match found {
+            Found::Absent => Lookup::Absent,
+            Found::Tombstone { position: _ } => Lookup::Absent,
+            Found::Live { payload, position } => Lookup::Found { payload, position },
+        }
     }
 }
 
@@ -25,5 +27,5 @@ pub fn lookup(pool: &[u8], key: u32) -> Lookup
     if !fit(pool) {
         return Lookup::Unfit;
     }
-    seen(find(pool, key))
+    Lookup::from(find(pool, key))
 }

@@ -1,6 +1,6 @@
-// Melding one record into a pool.
-ghost use Rattle.std.specs.Prelude.{◌≡◌, false};
-ghost use Rattle.record.specs.Parse.{is_large};
+// Melding one record into a pool. The pool is a slice with `Fit` in each `requires`: what is called takes the slice, and a type of fit pools would be
+// opened at each call.
+ghost use Rattle.std.specs.Prelude.{◌≤◌, replicate};
 ghost use Rattle.record.specs.Reader.{lists, RoomFor};
 ghost use Rattle.pool.specs.Image.{Fit};
 ghost use Rattle.meld.specs.Melds.{Melds, MeldsFit};
@@ -12,7 +12,8 @@ use nodes::{LAST_POSITION, read_header};
 use record::limits::{MAX_POINTS, MAX_SCANS, SMALL_POINTS, SMALL_SCANS};
 use record::{Answer, is_large, read};
 
-// The verdict on a record, and how many nodes the conflict walk looked at.
+// The verdict on a record, and how many nodes the conflict walk looked at. Not one type with `Judged`, whose 0 says only that rows 5, 2 and 1 do not
+// apply.
 #[derive(Clone, Copy)]
 pub struct Melded {
     pub answer: Answer,
@@ -20,6 +21,7 @@ pub struct Melded {
 }
 
 // Melds a record into a fit pool, by way of lent lists that have room for it: 6, 4, 5, 2, 1, 3 or 0. What the lists hold afterwards means nothing.
+// Five lists, as `read` fills them (R10).
 pub fn meld_with(
     pool: &mut [u8],
     bytes: &[u8],
@@ -39,14 +41,13 @@ pub fn meld_with(
             looks: 0,
         };
     }
-    let reading = read(bytes, kinds, keys, payloads, lows, highs);
-    if reading.answer.number != Answer::COMMITTED.number {
+    let Ok(reading) = read(bytes, kinds, keys, payloads, lows, highs) else {
         advance(pool);
         return Melded {
             answer: Answer::MALFORMED,
             looks: 0,
         };
-    }
+    };
     let n = reading.points;
     let k = reading.scans;
     meld_lists(
@@ -60,38 +61,18 @@ pub fn meld_with(
     )
 }
 
-// Melds a record whose version byte does not say 2 into a fit pool.
-fn meld_small(pool: &mut [u8], bytes: &[u8]) -> Melded
+// The same, by way of lists of these two lengths.
+fn meld_by<const POINTS: usize, const SCANS: usize>(pool: &mut [u8], bytes: &[u8]) -> Melded
     requires fit { Fit pool.old }
-    requires bytes_value { is_large bytes.now ≡ false }
+    requires room_for { RoomFor bytes.now (lists (replicate POINTS 0) (replicate POINTS 0) (replicate POINTS 0) (replicate SCANS 0) (replicate SCANS 0)) }
+    requires few { (POINTS ≤ MAX_POINTS) × (SCANS ≤ MAX_SCANS) }
     ensures { MeldsFit pool.old bytes.now pool.new result }
 {
-    let mut kinds = [0u8; SMALL_POINTS];
-    let mut keys = [0u32; SMALL_POINTS];
-    let mut payloads = [0u64; SMALL_POINTS];
-    let mut lows = [0u32; SMALL_SCANS];
-    let mut highs = [0u32; SMALL_SCANS];
-    meld_with(
-        pool,
-        bytes,
-        &mut kinds,
-        &mut keys,
-        &mut payloads,
-        &mut lows,
-        &mut highs,
-    )
-}
-
-// Melds any record into a fit pool.
-fn meld_large(pool: &mut [u8], bytes: &[u8]) -> Melded
-    requires { Fit pool.old }
-    ensures { MeldsFit pool.old bytes.now pool.new result }
-{
-    let mut kinds = [0u8; MAX_POINTS];
-    let mut keys = [0u32; MAX_POINTS];
-    let mut payloads = [0u64; MAX_POINTS];
-    let mut lows = [0u32; MAX_SCANS];
-    let mut highs = [0u32; MAX_SCANS];
+    let mut kinds = [0u8; POINTS];
+    let mut keys = [0u32; POINTS];
+    let mut payloads = [0u64; POINTS];
+    let mut lows = [0u32; SCANS];
+    let mut highs = [0u32; SCANS];
     meld_with(
         pool,
         bytes,
@@ -110,9 +91,9 @@ pub fn meld_fit(pool: &mut [u8], bytes: &[u8]) -> Melded
     ensures { MeldsFit pool.old bytes.now pool.new result }
 {
     if is_large(bytes) {
-        return meld_large(pool, bytes);
+        return meld_by::<MAX_POINTS, MAX_SCANS>(pool, bytes);
     }
-    meld_small(pool, bytes)
+    meld_by::<SMALL_POINTS, SMALL_SCANS>(pool, bytes)
 }
 
 // Melds a record into a pool: the first answer that applies of 7, 6, 4, 5, 2, 1, 3, 0, and the looks. Nothing changes on 7 and 6; on 4, 5,

@@ -7,29 +7,21 @@ use fit::fit;
 use nodes::read_header;
 use record::Answer;
 
-// The status of a pool; any bytes may be lent as one, and are only read. Tombstones are counted along the words `oldest`: every one of them is at
+// The status of a pool, 7 for an unfit one; any bytes may be lent, and are only read. Tombstones are counted along the words `oldest`: every one of them is at
 // the pool's position or before, and only subtrees that hold one are entered. (At position 4,294,967,295 the whole tree is.)
-pub fn status(pool: &[u8]) -> Status
+pub fn status(pool: &[u8]) -> Result<Status, Answer>
     ensures { StatusIs pool.now result }
 {
     if !fit(pool) {
-        return Status {
-            answer: Answer::UNFIT_POOL,
-            limit: 0,
-            zone: 0,
-            position: 0,
-            kept: 0,
-            tombstones: 0,
-        };
+        return Err(Answer::UNFIT_POOL);
     }
     let h = read_header(pool);
     let tombstones = count_old(pool, h.position, h.limit);
-    Status {
-        answer: Answer::COMMITTED,
+    Ok(Status {
         limit: h.limit,
         zone: h.zone,
         position: h.position,
         kept: h.kept,
         tombstones,
-    }
+    })
 }

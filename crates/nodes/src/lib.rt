@@ -4,9 +4,7 @@
 pub mod header;
 pub mod mending;
 pub mod node;
-pub mod order;
 
 pub use header::{Header, LAST_POSITION, read_header, write_header, write_position};
 pub use mending::{inner, mend};
-pub use node::{FREE, NO_NODE, NO_TOMBSTONE, Node, read_node, write_node};
-pub use order::{larger, smaller};
+pub use node::{FREE, LIVE, NO_NODE, NO_TOMBSTONE, Node, TOMBSTONE, read_node, write_node};

@@ -4,7 +4,6 @@ ghost use Rattle.nodes.specs.Nodes.{base, inner_node};
 ghost use Rattle.nodes.specs.Mended.{mended};
 
 use crate::node::{Node, read_node, write_node};
-use crate::order::{larger, smaller};
 
 // An inner node.
 pub fn inner(height: u32, low: u32, newest: u32, oldest: u32, left: u32, right: u32) -> Node
@@ -29,7 +28,7 @@ pub fn mend(pool: &mut [u8], i: u32, height: u32, low: u32, left: u32, right: u3
 {
     let l = read_node(pool, left);
     let r = read_node(pool, right);
-    let newest = larger(l.newest, r.newest);
-    let oldest = smaller(l.oldest, r.oldest);
+    let newest = l.newest.max(r.newest);
+    let oldest = l.oldest.min(r.oldest);
     write_node(pool, i, inner(height, low, newest, oldest, left, right));
 }

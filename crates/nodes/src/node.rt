@@ -10,9 +10,15 @@ pub const NO_NODE: u32 = 4294967295;
 // The height of a free node.
 pub const FREE: u32 = 4294967295;
 
+// The kinds of a leaf.
+pub const LIVE: u32 = 1;
+
+pub const TOMBSTONE: u32 = 2;
+
 // The oldest of a node without a tombstone at or below.
 pub const NO_TOMBSTONE: u32 = 4294967295;
 
+// Plain numbers, none of them an enum or an Option: a node is read from any bytes, and its words may be any numbers until they are checked.
 #[derive(Clone, Copy)]
 pub struct Node {
     // 0 in a leaf; 1 to 32 in an inner node, which splits at bit height - 1; FREE in a free node.
@@ -27,7 +33,7 @@ pub struct Node {
     pub left: u32,
     // A leaf's payload, lower half; the right child's number.
     pub right: u32,
-    // 1 in a leaf that is live, 2 in a tombstone, 0 in any other node.
+    // LIVE or TOMBSTONE in a leaf, 0 in any other node.
     pub kind: u32,
     // 0.
     pub spare: u32,

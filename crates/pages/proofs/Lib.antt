@@ -10,5 +10,4 @@ pub mod CarryBytes
 mod Lengths
 mod Stored
 mod Deciding
-mod Waiting
 mod Table

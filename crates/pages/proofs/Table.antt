@@ -2,7 +2,7 @@
 -- Assumes nothing.
 use Prim.Native.Nat.{ℕ, ◌+◌, ◌-◌, ◌≤◌, ◌<◌}
 use mathlib.Core.Path.{◌≡◌, refl, sym, ap, ◌∙◌, subst}
-use mathlib.Core.Logic.{◌⊎◌, inl, inr, ⊎_elim}
+use mathlib.Core.Logic.{⊎_elim}
 use mathlib.Core.Bool.{Bool, true, false, not}
 use mathlib.Core.List.{List, ◌++◌}
 use native.Mathlib.Omega.{arith}
@@ -24,45 +24,27 @@ use Rattle.pages.specs.Pages.{bytes_in, cannot_be, whole_in, FeedRow, wrong_carr
 use Rattle.pages.specs.Pages.{undecided, refusing, RecordDecided, FeedsAs, Feeds}
 use Rattle.pages.specs.Steps.{begun_in, wait_row, LengthIn, KeepsLength, Complete}
 use Rattle.pages.proofs.Rows.{row_is, cannot_is, can_is, whole_is, not_whole_is, may_split, may_tells, no_both}
-use Rattle.pages.proofs.Fronts.{Such, carried_few, held, length_in, said_in, length_take_two}
+use Rattle.pages.proofs.Fronts.{Such, held, length_in, said_in, length_take_two}
 use Rattle.pages.proofs.Lengths.{allowed}
 
 -- HOW FAR THE RECORD IS
 
--- each case as a number
-abbrev code : Begun → ℕ
-code Short = 0
-code Impossible = 1
-code (Sized n) = 2 + n
+module _ (bytes : List ℕ) (r : Begun) (e : r ≡ begun_in bytes) where
+  is_short : r ≡ Short → length bytes < 2
+  is_short q =
+      by_case (ltb (length bytes) 2) (ltb-true (length bytes) 2) λ p.
+      by_case (impossible (length_at bytes 0)) (λ i. let f = simp (p, i) at e in cc) λ i. let f = simp (p, i) at e in cc
 
-module _ (bytes : List ℕ) where
-  -- what decides the case
-  abbrev BegunFacts : Type 0
-  BegunFacts = ((length bytes < 2) × (code (begun_in bytes) ≡ 0))
-      ⊎ (((2 ≤ length bytes) × (impossible (length_at bytes 0) ≡ true) × (code (begun_in bytes) ≡ 1))
-      ⊎ ((2 ≤ length bytes) × (impossible (length_at bytes 0) ≡ false) × (code (begun_in bytes) ≡ 2 + (2 + length_at bytes 0))))
+  is_impossible : r ≡ Impossible → (2 ≤ length bytes) × (impossible (length_at bytes 0) ≡ true)
+  is_impossible q =
+      by_case (ltb (length bytes) 2) (λ p. let f = simp p at e in absurd (cc)) λ p.
+      by_case (impossible (length_at bytes 0)) (λ i. (ltb-false (length bytes) 2 p, i)) λ i. let f = simp (p, i) at e in absurd (cc)
 
-  begun_facts : BegunFacts
-  begun_facts =
-      by_case (ltb (length bytes) 2) (λ p. inl (ltb-true (length bytes) 2 p, simp p)) λ p.
-      by_case (impossible (length_at bytes 0)) (λ q. inr (inl (ltb-false (length bytes) 2 p, q, simp (p, q)))) λ q.
-      inr (inr (ltb-false (length bytes) 2 p, q, simp (p, q)))
-
-  module _ (r : Begun) (e : r ≡ begun_in bytes) where
-    is_short : r ≡ Short → length bytes < 2
-    is_short q = ⊎_elim (λ f. f.0)
-        (λ g. ⊎_elim (λ f. absurd (omega (arith, ap code (sym q ∙ e), f.2))) (λ f. absurd (omega (arith, ap code (sym q ∙ e), f.2))) g)
-        begun_facts
-
-    is_impossible : r ≡ Impossible → (2 ≤ length bytes) × (impossible (length_at bytes 0) ≡ true)
-    is_impossible q = ⊎_elim (λ f. absurd (omega (arith, ap code (sym q ∙ e), f.1)))
-        (λ g. ⊎_elim (λ f. (f.0, f.1)) (λ f. absurd (omega (arith, ap code (sym q ∙ e), f.2))) g)
-        begun_facts
-
-    is_sized : (size : ℕ) → r ≡ Sized size → (2 ≤ length bytes) × (impossible (length_at bytes 0) ≡ false) × (size ≡ past_at bytes 0)
-    is_sized size q = ⊎_elim (λ f. absurd (omega (arith, ap code (sym q ∙ e), f.1)))
-        (λ g. ⊎_elim (λ f. absurd (omega (arith, ap code (sym q ∙ e), f.2))) (λ f. (f.0, f.1, omega (arith, ap code (sym q ∙ e), f.2))) g)
-        begun_facts
+  is_sized : (size : ℕ) → r ≡ Sized size → (2 ≤ length bytes) × (impossible (length_at bytes 0) ≡ false) × (size ≡ past_at bytes 0)
+  is_sized size q =
+      by_case (ltb (length bytes) 2) (λ p. let f = simp p at e in absurd (cc)) λ p.
+      by_case (impossible (length_at bytes 0)) (λ i. let f = simp (p, i) at e in absurd (cc)) λ i.
+      let f = simp (p, i) at e in (ltb-false (length bytes) 2 p, i, cc)
 
 -- THE ROWS
 
@@ -97,19 +79,12 @@ module _ (carry : List ℕ) (carried : ℕ) (part : List ℕ) (over : Bool) wher
       such : Such carry carried
       such = let p = may_split carry carried is_allowed in record { sized = p.0; may = p.1 }
 
-      pub carried_fits : carried ≤ length carry
-      carried_fits = omega (arith, such.sized, carried_few such)
-
       -- where a length is in that can be, or none, no other is carried
       not_stuck : (2 ≤ carried → impossible (length_at bytes 0) ≡ false) → cannot_be (take carried carry) ≡ false
       not_stuck f = can_is (take carried carry)
           (λ h. let two : 2 ≤ carried = omega (arith, held such) in ap impossible (length_take_two carried carry two ∙ sym (said_in such part two)) ∙ f two)
 
       module _ (r : Begun) (e : r ≡ begun_in bytes) where
-        -- fewer than two bytes are in
-        pub short_room : r ≡ Short → carried + length part ≤ length carry
-        short_room q = omega (arith, is_short bytes r e q, length_in such part, such.sized)
-
         pub short_waits : r ≡ Short → (x : Fed) (carry' : List ℕ)
             → ((m : List ℕ) → FeedsAs (wait_row over (carried + length part)) m carry carried part x m carry') → (m : List ℕ) → Feeds m carry carried part over x m carry'
         short_waits q x carry' f m =
@@ -186,9 +161,6 @@ module _ (carry : List ℕ) (carried : ℕ) (part : List ℕ) (over : Bool) wher
 
           sized_most : size ≤ 13835
           sized_most = omega (arith, (possible_tells (length_at bytes 0) can_be).1, sized_size)
-
-          pub sized_room : length part < size - carried → carried + length part ≤ length carry
-          sized_room h = omega (arith, sized_most, such.sized)
 
           pub sized_waits : length part < size - carried → (x : Fed) (carry' : List ℕ)
               → ((m : List ℕ) → FeedsAs (wait_row over (carried + length part)) m carry carried part x m carry') → (m : List ℕ) → Feeds m carry carried part over x m carry'

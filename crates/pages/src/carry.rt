@@ -1,4 +1,5 @@
-// The carry: at its front the bytes of a record whose others are still to come.
+// The carry: at its front the bytes of a record whose others are still to come. How many they are stands beside it, as C lends both: one struct of the
+// two would be made in `feed` only to be taken apart in each step.
 ghost use Rattle.std.specs.Prelude.{◌≡◌, ◌&&◌, ◌+◌, ◌*◌, ◌≤◌, eqb, length};
 ghost use Rattle.record.specs.Reader.{front};
 ghost use Rattle.pages.specs.Pages.{carry_size, may_carry, bytes_in};
@@ -47,13 +48,6 @@ fn sized(length: u32) -> Begun
     Begun::Sized(2 + bytes)
 }
 
-// The number in two bytes, the first of which weighs most.
-fn joined(high: u8, low: u8) -> u32
-    ensures { result ≡ high * 256 + low }
-{
-    (high as u32) * 256 + (low as u32)
-}
-
 // How far the record is that begins with the bytes carried and goes on in the part. The two bytes of its length may lie in both.
 pub fn how_far(carry: &[u8], carried: usize, part: &[u8]) -> Begun
     requires { carried ≤ length carry.now }
@@ -68,17 +62,5 @@ pub fn how_far(carry: &[u8], carried: usize, part: &[u8]) -> Begun
     if carried == 0 {
         return sized(word2(part, 0));
     }
-    sized(joined(carry[0], part[0]))
-}
-
-// Stores the part behind the bytes carried.
-pub fn put_behind(carry: &mut [u8], carried: usize, part: &[u8])
-    requires { carried + length part.now ≤ length carry.old }
-    ensures { carry.new ≡ front (bytes_in carry.old carried part.now) carry.old }
-{
-    let mut i: usize = 0;
-    while i < part.len() {
-        carry[carried + i] = part[i];
-        i += 1;
-    }
+    sized(word2(&[carry[0], part[0]], 0))
 }

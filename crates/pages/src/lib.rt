@@ -5,25 +5,32 @@ mod carry;
 pub mod told;
 
 ghost use Rattle.std.specs.Prelude.{◌≡◌, List, ℕ, ◌+◌, ◌≤◌, length};
-ghost use Rattle.pages.specs.Pages.{bytes_in, refusing, FeedsAs, RecordDecided, Feeds};
+ghost use Rattle.pages.specs.Pages.{bytes_in, undecided, refusing, FeedsAs, RecordDecided, Feeds};
 ghost use Rattle.pages.specs.Steps.{wait_row, KeepsLength, LengthIn, Complete, decided};
 
-use carry::{Begun, how_far, may_carry, put_behind};
+use carry::{Begun, how_far, may_carry};
 use fit::fit;
 use meld::melding::{Melded, meld_fit};
 use record::Answer;
 pub use told::{Fed, Happened};
 
+// What is told where no record was decided: no looks.
+fn undecided(happened: Happened, taken: usize, carried: usize) -> Fed
+    ensures { result ≡ undecided happened taken carried }
+{
+    Fed {
+        happened,
+        looks: 0,
+        taken,
+        carried,
+    }
+}
+
 // A refusal: nothing is taken.
 fn refused(answer: Answer, carried: usize) -> Fed
     ensures { result ≡ refusing answer carried }
 {
-    Fed {
-        happened: Happened::Refused(answer),
-        looks: 0,
-        taken: 0,
-        carried,
-    }
+    undecided(Happened::Refused(answer), 0, carried)
 }
 
 // No whole record is in: the part is kept, or the log is over, and torn if a byte is in.
@@ -32,21 +39,11 @@ fn wait(carry: &mut [u8], carried: usize, part: &[u8], over: bool) -> Fed
     ensures { (m : List ℕ) → FeedsAs (wait_row over (carried + length part.now)) m carry.old carried part.now result m carry.new }
 {
     if !over {
-        put_behind(carry, carried, part);
-        return Fed {
-            happened: Happened::More,
-            looks: 0,
-            taken: part.len(),
-            carried: carried + part.len(),
-        };
+        carry[carried..carried + part.len()].copy_from_slice(part);
+        return undecided(Happened::More, part.len(), carried + part.len());
     }
     if carried + part.len() == 0 {
-        return Fed {
-            happened: Happened::End,
-            looks: 0,
-            taken: 0,
-            carried: 0,
-        };
+        return undecided(Happened::End, 0, 0);
     }
     refused(Answer::TORN_LOG, carried)
 }
@@ -57,22 +54,16 @@ fn keep_length(carry: &mut [u8], carried: usize, part: &[u8]) -> Fed
     ensures { KeepsLength carry.old carried part.now result carry.new }
 {
     let new = 2 - carried;
-    put_behind(carry, carried, &part[..new]);
-    Fed {
-        happened: Happened::Refused(Answer::IMPOSSIBLE_LENGTH),
-        looks: 0,
-        taken: new,
-        carried: 2,
-    }
+    carry[carried..2].copy_from_slice(&part[..new]);
+    undecided(Happened::Refused(Answer::IMPOSSIBLE_LENGTH), new, 2)
 }
 
 // What is told of a verdict.
 fn verdict(melded: Melded, taken: usize) -> Fed
     ensures { result ≡ decided melded taken }
 {
-    let answer = melded.answer;
     Fed {
-        happened: Happened::Decided(answer),
+        happened: Happened::Decided(melded.answer),
         looks: melded.looks,
         taken,
         carried: 0,
@@ -91,7 +82,7 @@ fn decide(pool: &mut [u8], carry: &mut [u8], carried: usize, part: &[u8], size: 
         return verdict(meld_fit(pool, &part[..size]), size);
     }
     let new = size - carried;
-    put_behind(carry, carried, &part[..new]);
+    carry[carried..size].copy_from_slice(&part[..new]);
     verdict(meld_fit(pool, &carry[..size]), new)
 }
 

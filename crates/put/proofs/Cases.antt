@@ -47,11 +47,6 @@ module _ (m : List ℕ) (i : ℕ) (l : Node) (a b : ℕ) where
   ready_room g = subst (λ (j : ℕ). base j + 32 ≤ length m) g.at
       (g.place.inside (number g.tree) (still_in a b g.entry g.tree (number g.tree) (root_counted g.tree)))
 
-  pub ready_height : PutReady m i l a b → (n : Node) → n ≡ node_at m i → n.height ≤ 32
-  ready_height g n q =
-      let v = read_root n q g.tree g.at g.place.holds in
-      rw (v, root_height g.tree) (falls_height g.tree 32 g.place.falls)
-
   pub split_rooms : PutReady m i l a b → (n : Node) → n ≡ node_at m i → covered n.low n.height l.low ≡ false → (base a + 32 ≤ length m) × (base b + 32 ≤ length m)
   split_rooms g n q c =
       let v = read_root n q g.tree g.at g.place.holds in

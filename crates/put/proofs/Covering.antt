@@ -2,7 +2,7 @@
 -- Assumes nothing.
 use Prim.Native.Nat.{ℕ, ◌+◌, ◌-◌, ◌*◌, ◌/◌, ◌^◌, ◌≤◌, ◌<◌}
 use mathlib.Core.Path.{◌≡◌, ◌∙◌}
-use mathlib.Core.Bool.{false, ◌&&◌}
+use mathlib.Core.Bool.{◌&&◌}
 use native.Mathlib.Omega.{arith}
 use native.Mathlib.Nat.{div-eq_of_lt, div-lt_iff_lt-mul}
 use lib.Dec.{ltb, leb, eqb, ltb→lt, le→leb, lt→ltb, eqb→eq}
@@ -11,7 +11,7 @@ use Rattle.rules.proofs.Tests.{no_le, same, and_of, right_of_lem, yes_eq}
 use Rattle.put.specs.Storing.{covered}
 
 -- a key below low is not covered
-pub covered_below : (low h k : ℕ) → k < low → false ≡ covered low h k
+pub covered_below : (low h k : ℕ) → k < low → leb low k ≡ covered low h k
 unfolding covered
 covered_below low h k l = rw (no_le l)
 

@@ -20,8 +20,7 @@ use Rattle.pool.proofs.Numbers.{times_append, times_mem, mem_times, distinct_tim
 use Rattle.pool.specs.Frame.{Frame}
 use Rattle.pool.proofs.Frame.{frame_node, frame_front, free_frame}
 use Rattle.pool.proofs.Headers.{image_of}
-use Rattle.put.specs.declared.value.Value.{Value}
-use Rattle.put.specs.Values.{payload_stored, entry_of}
+use Rattle.put.specs.Values.{Value, payload_stored, entry_of}
 use Rattle.put.specs.Storing.{has, rest_of, tree_after, free_after, put_in}
 use Rattle.put.specs.Places.{leaf_of}
 use Rattle.put.specs.Asks.{Roomy, grown}

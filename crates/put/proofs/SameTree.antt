@@ -64,7 +64,7 @@ same_tree m s t (node i h low l r) (node j h' low' l' r') f g p q e =
 
 -- ONE STATE
 
-first_below : (n : ℕ) (T : Plan) (is : List ℕ) → AllBelow n (numbers T ++ is) → number T < n
+pub first_below : (n : ℕ) (T : Plan) (is : List ℕ) → AllBelow n (numbers T ++ is) → number T < n
 first_below n (leaf i x) is b = b.0
 first_below n (node i h low l r) is b = b.0
 

@@ -2,9 +2,9 @@
 -- Assumes nothing.
 use Prim.Native.Nat.{ℕ, ◌+◌, ◌*◌, ◌^◌, ◌≤◌, ◌<◌}
 use mathlib.Core.Path.{◌≡◌, refl, sym, ap, ◌∙◌}
-use mathlib.Core.Bool.{Bool, true, false, not, true≢false}
+use mathlib.Core.Bool.{Bool, true, false, not, not-not}
 use mathlib.Core.Logic.{◌≢◌}
-use mathlib.Core.List.{List, [], ◌∷◌, ◌++◌}
+use mathlib.Core.List.{List, [], ◌∷◌}
 use mathlib.Core.Option.{Option, none, some}
 use native.Mathlib.Omega.{arith}
 use lib.ListN.{length}
@@ -14,13 +14,12 @@ use Rattle.nodes.specs.Nodes.{base, put_node, header_at, put_header}
 use Rattle.nodes.specs.Laws.{node_put, bytes_node}
 use Rattle.rules.specs.State.{Entry}
 use Rattle.rules.specs.Tree.{entries}
-use Rattle.pool.specs.Plan.{Plan, leaf, node, tree_in, number, numbers, leaf_node, no_node}
+use Rattle.pool.specs.Plan.{Plan, tree_in, number, leaf_node, no_node}
 use Rattle.pool.specs.Image.{Arrangement, Image, AllBelow, first_of, header_of}
 use Rattle.pool.specs.Times.{times}
 use Rattle.pool.proofs.Frame.{frame_put, frame_widen, frame_header}
 use Rattle.put.specs.declared.tree.AfterPut.{AfterPut}
-use Rattle.put.specs.declared.value.Value.{Value}
-use Rattle.put.specs.Values.{payload_stored, entry_of}
+use Rattle.put.specs.Values.{Value, payload_stored, entry_of}
 use Rattle.put.specs.Storing.{has, put_plan, rest_of, put_in}
 use Rattle.put.specs.Places.{leaf_of, Place, Done, PutReady, Puts}
 use Rattle.put.specs.Asks.{Roomy, LeafOf, next_of, grown}
@@ -29,22 +28,12 @@ use Rattle.put.proofs.Counts.{root_put}
 use Rattle.pool.proofs.Headers.{free_below}
 use Rattle.put.proofs.FreeNodes.{next_first, first_room, below_rest, holds_rest}
 use Rattle.put.proofs.Steps.{bit_same}
-use Rattle.put.proofs.SameTree.{canonical_falls}
+use Rattle.put.proofs.SameTree.{canonical_falls, first_below}
 use Rattle.put.proofs.Finish.{body_image, body_header, grown_is, storable, entry_fits, after, once_all, inside_all, body_put}
 
 -- an arrangement by its parts
 abbrev arr : ℕ → ℕ → ℕ → Option Plan → List ℕ → Arrangement
 arr N Z p o free = record { N = N; Z = Z; p = p; tree = o; free = free }
-
-number_below : (n : ℕ) (T : Plan) (is : List ℕ) → AllBelow n (numbers T ++ is) → number T < n
-number_below n (leaf i x) is b = b.0
-number_below n (node i h low x y) is b = b.0
-
-not_same : (a b : Bool) → not a ≡ not b → a ≡ b
-not_same true true q = refl
-not_same true false q = absurd (true≢false (sym q))
-not_same false true q = absurd (true≢false q)
-not_same false false q = refl
 
 module _ (m : List ℕ) (k : ℕ) (v : Value) (hd : Header) (l : Node) (g : Roomy m k v) (ks : k < 2 ^ 32) (hq : hd ≡ header_at m) (lq : LeafOf k hd.position v l) where
   abbrev ent : ℕ → Entry
@@ -98,7 +87,7 @@ module _ (m : List ℕ) (k : ℕ) (v : Value) (hd : Header) (l : Node) (g : Room
 
   no_tree : (N Z p : ℕ) (T : Plan) (free : List ℕ) → Image m (arr N Z p (some T) free) → hd.root ≡ no_node → ⊥
   no_tree N Z p T free a z =
-      omega (arith, number_below (2 * N) T free a.arranged.below, few_nodes (arr N Z p (some T) free) a, ap (λ (h : Header). h.root) (read (arr N Z p (some T) free) a))
+      omega (arith, first_below (2 * N) T free a.arranged.below, few_nodes (arr N Z p (some T) free) a, ap (λ (h : Header). h.root) (read (arr N Z p (some T) free) a))
 
   -- what storing the first leaf asks, and what it leaves
   pub first_leaf_asks : hd.root ≡ no_node → (base hd.free + 32 ≤ length m) × (hd.kept < 65536)
@@ -167,7 +156,7 @@ module _ (m : List ℕ) (k : ℕ) (v : Value) (hd : Header) (l : Node) (g : Room
           rw (first_is A a, second_is A a second sq) at (f T (ent p) (root_is N Z p T free a) (leaf_is A a) (place N Z p T free a))
 
       has_is : (N Z p : ℕ) (T : Plan) (free : List ℕ) → Image m (arr N Z p (some T) free) → (b : Bool) → s.new ≡ not b → has k T ≡ b
-      has_is N Z p T free a b n = not_same (has k T) b (sym (done N Z p T free a).new_is ∙ n)
+      has_is N Z p T free a b n = sym (not-not (has k T)) ∙ ap not (sym (done N Z p T free a).new_is ∙ n) ∙ not-not b
 
       -- a new key: the counts
       grows : (N Z p : ℕ) (T : Plan) (free : List ℕ) → Image m (arr N Z p (some T) free) → s.new ≡ true

@@ -9,8 +9,7 @@ use Rattle.rules.specs.State.{Fits}
 use Rattle.rules.specs.Verdict.{store}
 use Rattle.pool.specs.Plan.{no_node, leaf_node}
 use Rattle.pool.specs.Image.{Arrangement, Image, state_of}
-use Rattle.put.specs.declared.value.Value.{Value}
-use Rattle.put.specs.Values.{payload_stored, entry_of}
+use Rattle.put.specs.Values.{Value, payload_stored, entry_of}
 
 -- a fit pool, past position 0, with room for the key
 pub record Roomy (m : List ℕ) (k : ℕ) (v : Value) : Type 0 where

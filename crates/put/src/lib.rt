@@ -14,7 +14,6 @@ ghost use Rattle.put.specs.Asks.{Roomy, next_of, grown};
 
 use nodes::{Header, NO_NODE, read_header, read_node, write_header, write_node};
 use tree::put_at;
-pub use value::Value;
 use value::leaf_of;
 
 // The free node behind node i, none behind none.
@@ -35,23 +34,20 @@ fn with_key(header: Header, root: u32, free: u32) -> Header
     ensures { result ≡ grown header root free }
 {
     Header {
-        mark: header.mark,
-        limit: header.limit,
-        zone: header.zone,
-        position: header.position,
         kept: header.kept + 1,
         root,
         free,
+        ..header
     }
 }
 
-// Stores the value for the key at the pool's position, instead of what was stored for it.
-pub fn put(pool: &mut [u8], key: u32, value: Value)
-    requires { Roomy pool.old key value }
-    ensures { (A : Arrangement) → Image pool.old A → Image pool.new (put_in A (entry_of key A.p value)) }
+// Stores the payload for the key, or a tombstone if there is none, at the pool's position, instead of what was stored for the key.
+pub fn put(pool: &mut [u8], key: u32, payload: Option<u64>)
+    requires { Roomy pool.old key payload }
+    ensures { (A : Arrangement) → Image pool.old A → Image pool.new (put_in A (entry_of key A.p payload)) }
 {
     let header = read_header(pool);
-    let leaf = leaf_of(key, header.position, value);
+    let leaf = leaf_of(key, header.position, payload);
     let first = header.free;
     let second = next_free(pool, first);
     if header.root == NO_NODE {

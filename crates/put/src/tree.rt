@@ -6,9 +6,9 @@ ghost use Rattle.put.specs.Writes.{split_mem};
 ghost use Rattle.put.specs.Places.{PutReady, Puts};
 
 use bits::{above, cut, part_height};
-use nodes::{Node, inner, larger, mend, read_node, smaller, write_node};
+use nodes::{Node, inner, mend, read_node, write_node};
 
-// Where the tree's root is afterwards, and whether its key was not there before.
+// Where the tree's root is afterwards, and whether its key was not there before. The root is there in both cases, so it is no Option.
 #[derive(Clone, Copy)]
 pub struct AfterPut {
     pub root: u32,
@@ -20,10 +20,7 @@ fn covers(low: u32, height: u32, key: u32) -> bool
     requires { height ≤ 32 }
     ensures { result ≡ covered low height key }
 {
-    if key < low {
-        return false;
-    }
-    above(key - low, height) == 0
+    low <= key && above(key - low, height) == 0
 }
 
 // The leaf as node b, and a new inner node a above it and node i, which holds n, where the two part.
@@ -34,8 +31,8 @@ fn split(pool: &mut [u8], i: u32, n: Node, leaf: Node, a: u32, b: u32)
     write_node(pool, b, leaf);
     let height = part_height(n.low, leaf.low);
     let low = cut(leaf.low, height);
-    let newest = larger(leaf.newest, n.newest);
-    let oldest = smaller(leaf.oldest, n.oldest);
+    let newest = leaf.newest.max(n.newest);
+    let oldest = leaf.oldest.min(n.oldest);
     if leaf.low < n.low {
         write_node(pool, a, inner(height, low, newest, oldest, b, i));
     } else {

@@ -6,14 +6,6 @@ ghost use Rattle.put.specs.Asks.{LeafOf};
 
 use nodes::{NO_TOMBSTONE, Node};
 
-#[derive(Clone, Copy)]
-pub enum Value {
-    // A put: the payload.
-    Live(u64),
-    // A delete.
-    Tombstone,
-}
-
 // A leaf with a payload.
 fn live(key: u32, position: u32, payload: u64) -> Node
     ensures { result ≡ leaf_node key position (some payload) }
@@ -46,12 +38,12 @@ fn tombstone(key: u32, since: u32) -> Node
     }
 }
 
-// The leaf that holds the value.
-pub fn leaf_of(key: u32, position: u32, value: Value) -> Node
-    ensures { LeafOf key position value result }
+// The leaf of a put's payload, or of a delete if there is none.
+pub fn leaf_of(key: u32, position: u32, payload: Option<u64>) -> Node
+    ensures { LeafOf key position payload result }
 {
-    match value {
-        Value::Live(payload) => live(key, position, payload),
-        Value::Tombstone => tombstone(key, position),
+    match payload {
+        Some(payload) => live(key, position, payload),
+        None => tombstone(key, position),
     }
 }

@@ -1,21 +1,20 @@
 -- One law for each return of `blame` and `explain_lists`, and for what their calls ask.
 -- Assumes nothing.
-use Prim.Native.Nat.{ℕ, ◌+◌, ◌*◌, ◌-◌, ◌^◌, ◌≤◌, ◌<◌}
+use Prim.Native.Nat.{ℕ, ◌-◌, ◌≤◌, ◌<◌}
 use mathlib.Core.Path.{◌≡◌, refl, sym, ap, ◌∙◌, subst}
 use mathlib.Core.Logic.{◌⊎◌, ⊎_elim}
 use mathlib.Core.Bool.{Bool, true, false}
 use mathlib.Core.Option.{some}
 use mathlib.Core.List.{List}
 use native.Mathlib.Omega.{arith}
-use lib.ListN.{length, length-map}
 use lib.Dec.{T, ltb}
 use borrow.Author.Tests.{ltb-false}
 use Rattle.record.specs.declared.answer.Answer.{Answer}
 use Rattle.record.specs.declared.point.Scan.{Scan}
 use Rattle.record.specs.Answer as Numbers
 use Rattle.record.specs.Record.{Rec}
-use Rattle.record.specs.Reader.{high_of}
-use Rattle.std.specs.Prelude.{if◌then◌else◌}
+use Rattle.std.specs.Prelude.{if◌then◌else◌, Some, None}
+use Rattle.std.proofs.lemmas.Option.{none-some, same_Some}
 use Rattle.nodes.specs.declared.header.Header.{Header}
 use Rattle.nodes.specs.declared.node.Node.{Node}
 use Rattle.nodes.specs.Nodes.{header_at, node_at}
@@ -31,16 +30,15 @@ use Rattle.conflict_search.specs.Smallest.{NamedLeaf}
 use Rattle.conflict_search.proofs.Reach.{sorted_valid, footprint_reach}
 use Rattle.judge.specs.declared.judged.Named.{Named}
 use Rattle.judge.specs.Judged.{judged_of, named_in}
-use Rattle.judge.proofs.NamedLaws.{one_is_conflict, named_smallest}
+use Rattle.judge.proofs.NamedLaws.{one_is_conflict, named_smallest, named_conflict}
 use Rattle.room.specs.declared.room.Room.{Room}
 use Rattle.room.specs.declared.room.Room.TheVariants.{Enough, AfterDrop, TooLittle}
-use Rattle.room.specs.Room.{said_by, room_in, Writable, RoomIs}
+use Rattle.room.specs.Room.{said_by, room_in, RoomIs}
 use Rattle.meld.specs.Lists.{Names}
 use Rattle.meld.proofs.Judging.{Stops, at_ahead, at_too_old, at_conflict, Decided, Open, decided, too_little, after_drop, enough}
 use Rattle.reason.specs.declared.told.Touch.{Touch}
 use Rattle.reason.specs.declared.told.Reason.{Reason}
 use Rattle.reason.specs.declared.told.Reason.TheVariants.{Nothing, Conflict, TooOld, NoRoom}
-use Rattle.reason.specs.declared.told.Explained.{Explained}
 use Rattle.reason.specs.Reason.{InConflict, reason_told, TouchedBy, ReasonFor, ExplainsAs}
 use Rattle.reason.specs.Steps.{plainly, TouchLists, TouchIs, Blamable, BlameIs, Explainable, ExplainsLists}
 
@@ -54,13 +52,6 @@ reaches_hit : {S : State} (r : Rec) (e : Entry) → InConflict S r e → T (hits
 reaches_hit r e c = hits_of r.snapshot (reach r) e c.above (reaches_meets r e.key c.reached)
 
 module _ (m : List ℕ) (i : ℕ) (keys highs : List ℕ) where
-  -- the leaf's node is within the pool
-  pub leaf_within : Blamable m i keys highs → 64 + 32 * i + 32 ≤ length m
-  leaf_within b = b.named.within
-
-  pub highs_few : Blamable m i keys highs → length highs < 2 ^ 32
-  highs_few b = let l = b.lists in omega (arith, ap length l.highs_are, length-map b.r.scans high_of, l.valid.few_scans)
-
   pub blames : (n : Node) → n ≡ node_at m i → (t : Touch) → TouchIs keys highs n.low t → BlameIs m i keys highs (Conflict n.low n.newest t)
   blames n en t touches A im r l named =
       let e = named.entry in
@@ -106,28 +97,12 @@ as_ruled : (S : State) (r : Rec) (v : Verdict) (a : Answer) (n : ℕ) (x : Reaso
 as_ruled S r v a n x is answer_is looks_is reason =
     record { as_melded = rw (is, answer_is, looks_is); true_reason = subst (ReasonFor S r x) (sym is) reason }
 
--- what is told plainly
-pub plainly_explained : (m : List ℕ) (s : ℕ) (kinds ks ls hs : List ℕ) (a : Answer) (n : ℕ) (y : Explained) → y ≡ plainly a n
-    → ExplainsLists m s kinds ks ls hs (plainly a n) → ExplainsLists m s kinds ks ls hs y
-plainly_explained m s kinds ks ls hs a n y e h = subst (ExplainsLists m s kinds ks ls hs) (sym e) h
-
-module _ (m : List ℕ) (s : ℕ) (kinds ks ls hs : List ℕ) (pre : Explainable m s kinds ks ls hs) where
+module _ {m : List ℕ} {s : ℕ} {kinds ks ls hs : List ℕ} (pre : Explainable m s kinds ks ls hs) where
   pub is_fit : Fit m
   is_fit = record { arrangement = pre.arrangement; image = pre.image }
 
   pub are_sorted : Sorted ks ls hs
   are_sorted = let n = pre.names in rw (n.keys_are, n.lows_are, n.highs_are) (sorted_valid n.valid)
-
-  pub is_writable : Writable m kinds ks
-  is_writable =
-      let n = pre.names in
-      record {
-        left = subst (λ (p : ℕ). p < last_position) (sym (ap (λ (h : Header). h.position) pre.image.header)) pre.left;
-        r = pre.r;
-        valid = n.valid;
-        kinds_are = n.kinds_are;
-        keys_are = n.keys_are;
-      }
 
   -- a position is left in whatever arrangement the pool is the image of
   more : (A : Arrangement) → Image m A → A.p < last_position
@@ -149,21 +124,30 @@ module _ (m : List ℕ) (s : ℕ) (kinds ks ls hs : List ℕ) (pre : Explainable
     unfolding named_in
     way A i r xs n = decided (state_of A) r (more A i) x.judged (ap (λ (y : Named). y.judged) (as_named A i r xs n))
 
+    -- a leaf is named only with answer 1
+    leaf_one : (leaf : ℕ) → x.leaf ≡ Some leaf → x.judged.answer.number ≡ 1
+    leaf_one leaf e = named_conflict m s (footprint ks ls hs) x ex leaf e pre.arrangement pre.image
+
+    -- and with answer 1 a leaf is named
+    not_one : x.leaf ≡ None → x.judged.answer.number ≡ 1 → ⊥
+    not_one e one = let w = named_smallest m s (footprint ks ls hs) x ex one pre.arrangement pre.image in none-some w.0 (sym e ∙ w.1)
+
     -- the search's leaf, for a record of the lists
-    leaf_named : x.judged.answer.number ≡ 1 → (A : Arrangement) → Image m A → (r : Rec) (xs : List ℕ) → Names s kinds ks xs ls hs r → NamedLeaf m A r.snapshot (reach r) x.leaf
-    leaf_named one A i r xs n =
-        subst (λ (q : ℕ). NamedLeaf m A q (reach r) x.leaf) n.snapshot_is
-        (subst (λ (f : List Scan). NamedLeaf m A s f x.leaf) (print_is r xs n) (named_smallest m s (footprint ks ls hs) x ex one A i))
+    leaf_named : (leaf : ℕ) → x.leaf ≡ Some leaf → (A : Arrangement) → Image m A → (r : Rec) (xs : List ℕ) → Names s kinds ks xs ls hs r → NamedLeaf m A r.snapshot (reach r) leaf
+    leaf_named leaf e A i r xs n =
+        let w = named_smallest m s (footprint ks ls hs) x ex (leaf_one leaf e) A i in
+        subst (λ (q : ℕ). NamedLeaf m A q (reach r) leaf) n.snapshot_is
+        (subst (λ (f : List Scan). NamedLeaf m A s f leaf) (print_is r xs n) (subst (NamedLeaf m A s (footprint ks ls hs)) (same_Some w.0 leaf (sym w.1 ∙ e)) w.2))
 
     -- CONFLICT
 
-    pub is_blamable : x.judged.answer.number ≡ 1 → Blamable m x.leaf ks hs
-    is_blamable one = record {
+    pub is_blamable : (leaf : ℕ) → x.leaf ≡ Some leaf → Blamable m leaf ks hs
+    is_blamable leaf e = record {
       arrangement = pre.arrangement;
       image = pre.image;
       r = pre.r;
       lists = touch_lists pre.r pre.xs pre.names;
-      named = leaf_named one pre.arrangement pre.image pre.r pre.xs pre.names;
+      named = leaf_named leaf e pre.arrangement pre.image pre.r pre.xs pre.names;
     }
 
     -- what has stopped with a number is the verdict of that number
@@ -173,13 +157,14 @@ module _ (m : List ℕ) (s : ℕ) (kinds ks ls hs : List ℕ) (pre : Explainable
     number_of : (S : State) (r : Rec) (z : Decided S r x.judged) → (verdict_answer z.v).number ≡ x.judged.answer.number
     number_of S r z = sym (ap (λ (a : Answer). a.number) z.answer_is)
 
-    pub conflict_explained : x.judged.answer.number ≡ 1 → (y : Reason) → BlameIs m x.leaf ks hs y
+    pub conflict_explained : (leaf : ℕ) → x.leaf ≡ Some leaf → (y : Reason) → BlameIs m leaf ks hs y
         → ExplainsLists m s kinds ks ls hs (record { answer = x.judged.answer; looks = x.judged.looks; reason = y })
-    conflict_explained one y b A i r xs n =
+    conflict_explained leaf e y b A i r xs n =
+        let one = leaf_one leaf e in
         let z = stopped A i r xs n (λ e. omega arith) in
         let v = one_is_conflict z.v (number_of (state_of A) r z ∙ one) in
         as_ruled (state_of A) r conflict x.judged.answer x.judged.looks y (z.is ∙ v) (z.answer_is ∙ ap verdict_answer v) z.looks_is
-        (b A i r (touch_lists r xs n) (leaf_named one A i r xs n))
+        (b A i r (touch_lists r xs n) (leaf_named leaf e A i r xs n))
 
     -- TOO OLD
 
@@ -204,11 +189,11 @@ module _ (m : List ℕ) (s : ℕ) (kinds ks ls hs : List ℕ) (pre : Explainable
 
     -- AHEAD
 
-    pub ahead_explained : (x.judged.answer.number ≡ 1 → ⊥) → (x.judged.answer.number ≡ 2 → ⊥) → (x.judged.answer.number ≡ 0 → ⊥)
+    pub ahead_explained : x.leaf ≡ None → (x.judged.answer.number ≡ 2 → ⊥) → (x.judged.answer.number ≡ 0 → ⊥)
         → ExplainsLists m s kinds ks ls hs (plainly x.judged.answer x.judged.looks)
-    ahead_explained d1 d2 d0 A i r xs n =
+    ahead_explained none d2 d0 A i r xs n =
         let z = stopped A i r xs n d0 in
-        let v = only_ahead z.v z.stops (λ e. d1 (sym (number_of (state_of A) r z) ∙ e)) (λ e. d2 (sym (number_of (state_of A) r z) ∙ e)) in
+        let v = only_ahead z.v z.stops (λ e. not_one none (sym (number_of (state_of A) r z) ∙ e)) (λ e. d2 (sym (number_of (state_of A) r z) ∙ e)) in
         as_ruled (state_of A) r ahead x.judged.answer x.judged.looks Nothing (z.is ∙ v) (z.answer_is ∙ ap verdict_answer v) z.looks_is refl
       where
         only_ahead : (v : Verdict) → Stops v → ((verdict_answer v).number ≡ 1 → ⊥) → ((verdict_answer v).number ≡ 2 → ⊥) → v ≡ ahead

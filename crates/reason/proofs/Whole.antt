@@ -1,8 +1,7 @@
--- One law for each return of `explain_fit` and `explain`.
+-- One law for each return of `explain_with`.
 -- Assumes nothing.
 use Prim.Native.Nat.{ℕ, ◌<◌}
 use mathlib.Core.Path.{◌≡◌, refl, sym, ap, ◌∙◌, subst}
-use mathlib.Core.Bool.{Bool, true, false, not}
 use mathlib.Core.Option.{Option, none, some}
 use mathlib.Core.List.{List}
 use native.Mathlib.Omega.{arith}
@@ -17,12 +16,10 @@ use Rattle.rules.specs.Verdict.{positions_used_up, verdict}
 use Rattle.rules.specs.Tree.{looks_of}
 use Rattle.rules.proofs.Near.{verdict_last}
 use Rattle.pool.specs.Image.{Arrangement, Image, Fit, state_of}
-use Rattle.fit.specs.Whole.{Decides}
-use Rattle.meld.proofs.Lookups.{now_fit, not_fit}
 use Rattle.meld.specs.Lists.{Names}
 use Rattle.reason.specs.declared.told.Reason.TheVariants.{Nothing}
 use Rattle.reason.specs.declared.told.Explained.{Explained}
-use Rattle.reason.specs.Reason.{ReasonFor, TrueReason, ExplainsAs, Explains}
+use Rattle.reason.specs.Reason.{ReasonFor, TrueReason, ExplainsAs}
 use Rattle.reason.specs.Steps.{plainly, Explainable, ExplainsLists}
 
 -- no reason is told where positions are used up
@@ -58,12 +55,3 @@ module _ (m bs : List ℕ) (h : Header) (eh : h ≡ header_at m) where
 
       pub lists_explained : parse bs ≡ some r → (x : Explained) → ExplainsLists m s kinds ks ls hs x → (A : Arrangement) → Image m A → ExplainsAs (state_of A) (parse bs) x
       lists_explained e x f A i = subst (λ (o : Option Rec). ExplainsAs (state_of A) o x) (sym e) (f A i r xs n)
-
--- THE WHOLE
-
-module _ (m bs : List ℕ) (b : Bool) (d : Decides (Fit m) b) where
-  pub refuses : not b ≡ true → (x : Explained) → x ≡ plainly Numbers.unfit_pool 0 → Explains m bs x
-  refuses e x is = record { fit = λ A i. absurd (not_fit m b d e (record { arrangement = A; image = i })); unfit = λ _. is }
-
-  pub explains : not b ≡ false → (x : Explained) → ((A : Arrangement) → Image m A → ExplainsAs (state_of A) (parse bs) x) → Explains m bs x
-  explains e x f = record { fit = f; unfit = λ n. absurd (n (now_fit m b d e)) }

@@ -3,7 +3,7 @@ ghost use Rattle.std.specs.Prelude.{◌^◌, ◌<◌, length};
 ghost use Rattle.reason.specs.Steps.{TouchIs, Blamable, BlameIs};
 
 use crate::told::{Reason, Touch};
-use conflict_search::cursor::{below, forward, widen};
+use conflict_search::cursor::{below, forward};
 use nodes::read_node;
 
 // What touches a key that a record names or scans: the point with that key; where no point has it, the scan that covers it.
@@ -12,7 +12,7 @@ fn touch_of(keys: &[u32], highs: &[u32], key: u32) -> Touch
     ensures { TouchIs keys.now highs.now key result }
 {
     let point = forward(keys, 0, key);
-    if below(keys, point, widen(key) + 1) {
+    if below(keys, point, u64::from(key) + 1) {
         return Touch::Point(point + 1);
     }
     let scan = forward(highs, 0, key);

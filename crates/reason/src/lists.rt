@@ -4,7 +4,8 @@ ghost use Rattle.reason.specs.Steps.{plainly, Explainable, ExplainsLists};
 
 use crate::blame::blame;
 use crate::told::{Explained, Reason};
-use judge::judge_and_name;
+use conflict_search::Footprint;
+use judge::{Judged, Named, judge_and_name};
 use nodes::read_header;
 use record::Answer;
 use room::{Room, room_for};
@@ -33,19 +34,16 @@ pub fn explain_lists(
     requires { Explainable pool.now snapshot kinds.old keys.now lows.now highs.now }
     ensures { ExplainsLists pool.now snapshot kinds.old keys.now lows.now highs.now result }
 {
-    let named = judge_and_name(pool, snapshot, keys, lows, highs);
-    let leaf = named.leaf;
-    let judged = named.judged;
-    let answer = judged.answer;
-    let looks = judged.looks;
-    if answer.number == Answer::CONFLICT.number {
+    let Named { judged, leaf } = judge_and_name(pool, snapshot, &Footprint { keys, lows, highs });
+    let Judged { answer, looks } = judged;
+    if let Some(leaf) = leaf {
         return Explained {
             answer,
             looks,
             reason: blame(pool, leaf, keys, highs),
         };
     }
-    if answer.number == Answer::TOO_OLD.number {
+    if answer == Answer::TOO_OLD {
         let lag = read_header(pool).position - snapshot;
         return Explained {
             answer,
@@ -53,7 +51,7 @@ pub fn explain_lists(
             reason: Reason::TooOld { lag },
         };
     }
-    if answer.number != Answer::COMMITTED.number {
+    if answer != Answer::COMMITTED {
         return plain(answer, looks);
     }
     match room_for(pool, kinds, keys) {

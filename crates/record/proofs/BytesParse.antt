@@ -12,20 +12,19 @@ use Rattle.words.specs.Word.{big_endian, word}
 use Rattle.record.specs.declared.point.Point.{Point}
 use Rattle.record.specs.declared.point.Point.TheVariants.{Read, Put, Delete}
 use Rattle.record.specs.declared.point.Scan.{Scan}
-use Rattle.record.specs.declared.checker.PointStep.TheVariants as PointStep
-use Rattle.record.specs.declared.checker.ScanStep.TheVariants as ScanStep
-use Rattle.record.specs.Record.{Rec, key_of, payload_of, point_bytes, points_bytes, scan_bytes, scans_bytes, body_bytes, bytes_of, version_of, head_size, PointsRise, Apart, Valid}
-use Rattle.record.specs.Parse.{took, step_point, step_scan, parse_points, parse_scans, version_in, point_count, scan_count, first_point, counts_ok, head_ok, parse}
+use Rattle.std.specs.Prelude.{Some}
+use Rattle.record.specs.Record.{Rec, key_of, payload_of, point_bytes, points_bytes, scan_bytes, scans_bytes, body_bytes, bytes_of, version_of, head_size, size_of, PointsRise, Apart, Valid}
+use Rattle.record.specs.Parse.{took, step_point, step_scan, parse_run, parse_points, parse_scans, version_in, point_count, scan_count, first_point, counts_ok, head_ok, parse}
 use Rattle.record.proofs.Places.{after_here, fits_here, byte_here, word_here, after_word}
 use Rattle.record.proofs.Versions.{version_most, counts_fit}
-use Rattle.record.proofs.Sizes.{size_of, point_size, points_size_most, scan_bytes_size, scans_bytes_size, body_size, whole_size}
+use Rattle.record.proofs.Sizes.{point_size, points_size_most, scan_bytes_size, scans_bytes_size, body_size, whole_size}
 
 -- A POINT
 
 module _ (bs rest : List ℕ) (low at : ℕ) where
   -- the step finds the point that stands there
   step_found : (p : Point) → drop at bs ≡ point_bytes p ++ rest → low ≤ key_of p → key_of p < 2 ^ 32 → payload_of p < 2 ^ 64
-      → step_point low bs at ≡ PointStep.Next p (size_of p)
+      → step_point low bs at ≡ Some p
   unfolding step_point
   step_found (Read k) e l h v =
       let e1 : drop (at + 1) bs ≡ big_endian 4 k ++ rest = after_here bs (big_endian 4 k ++ rest) at (1 ∷ []) 1 refl e in
@@ -61,7 +60,7 @@ module _ (bs rest : List ℕ) (low at : ℕ) where
 -- and the run all points that stand there
 pub points_found : (ps : List Point) (low at : ℕ) (bs rest : List ℕ) → drop at bs ≡ points_bytes ps ++ rest → PointsRise low ps
     → parse_points (length ps) low bs at ≡ took ps (at + length (points_bytes ps))
-unfolding parse_points
+unfolding parse_run
 points_found [] low at bs rest e r = ap (took []) (omega arith)
 points_found (p ∷ ps) low at bs rest e r =
     let e' : drop at bs ≡ point_bytes p ++ (points_bytes ps ++ rest) = e ∙ append_assoc (point_bytes p) (points_bytes ps) rest in
@@ -76,7 +75,7 @@ points_found (p ∷ ps) low at bs rest e r =
 
 -- the step finds the scan that stands there
 scan_found : (c : Scan) (low at : ℕ) (bs rest : List ℕ) → drop at bs ≡ scan_bytes c ++ rest → low ≤ c.low → c.low ≤ c.high → c.high < 2 ^ 32
-    → step_scan low bs at ≡ ScanStep.Next c
+    → step_scan low bs at ≡ Some c
 unfolding step_scan
 scan_found c low at bs rest e a b h =
     let e0 : drop at bs ≡ big_endian 4 c.low ++ (big_endian 4 c.high ++ rest) = e ∙ append_assoc (big_endian 4 c.low) (big_endian 4 c.high) rest in
@@ -92,7 +91,7 @@ scan_found c low at bs rest e a b h =
 -- and the run all scans that stand there
 pub scans_found : (cs : List Scan) (low at : ℕ) (bs rest : List ℕ) → drop at bs ≡ scans_bytes cs ++ rest → Apart low cs
     → parse_scans (length cs) low bs at ≡ took cs (at + length (scans_bytes cs))
-unfolding parse_scans
+unfolding parse_run
 scans_found [] low at bs rest e r = ap (took []) (omega arith)
 scans_found (c ∷ cs) low at bs rest e r =
     let e' : drop at bs ≡ scan_bytes c ++ (scans_bytes cs ++ rest) = e ∙ append_assoc (scan_bytes c) (scans_bytes cs) rest in

@@ -1,56 +1,19 @@
--- A record's head: what is known of one that is right, and what `version_for`, `counted` and `head_of` meet at each return.
+-- A record's head: what is known of one that is right, and what `head_of` meets at each return.
 -- Assumes nothing.
 use Prim.Native.Nat.{ℕ, ◌+◌, ◌≤◌, ◌<◌}
 use mathlib.Core.Path.{◌≡◌, refl, sym, ap, ◌∙◌}
 use mathlib.Core.Bool.{Bool, true, false}
 use mathlib.Core.List.{List}
 use native.Mathlib.Omega.{arith}
-use lib.ListN.{length, get_or, get_or-eq_default}
-use borrow.Author.Tests.{le-leb, lt-leb, leb-true, eq-eqb, ne_eqb, eqb-true}
+use lib.ListN.{length, get_or}
+use borrow.Author.Tests.{le-leb, leb-true, eq-eqb, eqb-true}
 use Rattle.words.specs.Word.{word}
 use Rattle.record.specs.declared.checker.Head.{Head}
-use Rattle.record.specs.declared.checker.Head.TheVariants.{Bad, Counts}
+use Rattle.std.specs.Prelude.{Option, Some, None}
 use Rattle.record.specs.Record.{version_for, head_size}
-use Rattle.record.specs.Parse.{version_in, point_count, scan_count, first_point, counts_ok, head_ok, head_for, head_of, is_large}
+use Rattle.record.specs.Parse.{version_in, point_count, scan_count, first_point, counts_ok, head_ok, head_for, head_in, head_of}
 use Rattle.record.proofs.Cases.{by_case, and_split}
-use Rattle.record.proofs.Versions.{version_1, version_2_points, version_2_scans, by_version}
-
--- VERSION_FOR
-
-module _ (p s : ℕ) where
-  pub version_many_points : 64 < p → 2 ≡ version_for p s
-  version_many_points a = sym (version_2_points p s a)
-
-  pub version_many_scans : p ≤ 64 → 8 < s → 2 ≡ version_for p s
-  version_many_scans a b = sym (version_2_scans p s a b)
-
-  pub version_few : p ≤ 64 → s ≤ 8 → 1 ≡ version_for p s
-  version_few a b = sym (version_1 p s a b)
-
--- COUNTED
-
-module _ (v p s : ℕ) where
-  -- too many points
-  pub counted_points : 1024 < p → Bad ≡ head_for v p s
-  unfolding head_for counts_ok
-  counted_points a = simp (lt-leb _ _ a)
-
-  module _ (few_points : p ≤ 1024) where
-    -- too many scans
-    pub counted_scans : 64 < s → Bad ≡ head_for v p s
-    unfolding head_for counts_ok
-    counted_scans a = simp (le-leb _ _ few_points, lt-leb _ _ a)
-
-    module _ (few_scans : s ≤ 64) (x : ℕ) (is : x ≡ version_for p s) where
-      -- another version
-      pub counted_other : (x ≡ v → ⊥) → Bad ≡ head_for v p s
-      unfolding head_for counts_ok
-      counted_other a = simp (le-leb _ _ few_points, le-leb _ _ few_scans, ← is, ne_eqb _ _ a)
-
-      -- all is right
-      pub counted_right : x ≡ v → (start : ℕ) → start ≡ head_size v → Counts p s start ≡ head_for v p s
-      unfolding head_for counts_ok
-      counted_right a start at = simp (le-leb _ _ few_points, le-leb _ _ few_scans, ← is, eq-eqb _ _ a, at)
+use Rattle.record.proofs.Versions.{by_version}
 
 -- WHAT IS KNOWN OF A HEAD THAT IS RIGHT
 
@@ -87,7 +50,7 @@ no_head : (bs : List ℕ) (b : Bool) → head_ok bs ≡ b → (HeadRight bs → 
 no_head bs true e n = absurd (n (head_right bs e))
 no_head bs false e n = e
 
-pub not_right : (bs : List ℕ) → (HeadRight bs → ⊥) → Bad ≡ head_of bs
+pub not_right : (bs : List ℕ) → (HeadRight bs → ⊥) → None ≡ head_of bs
 unfolding head_of
 not_right bs n = simp (no_head bs (head_ok bs) refl n)
 
@@ -109,12 +72,12 @@ scans_1 bs e = ap (λ (n : ℕ). word n bs (7 + n)) e ∙ word_one bs 8
 
 module _ (bs : List ℕ) where
   -- fewer than nine bytes
-  pub head_short : length bs < 9 → Bad ≡ head_of bs
+  pub head_short : length bs < 9 → None ≡ head_of bs
   head_short a = not_right bs (λ h. omega (arith, right_long bs h))
 
   module _ (w : ℕ) (is-w : w ≡ word 2 bs 0) where
     -- a length that is not the number of bytes after it
-    pub head_size_lem : (w + 2 ≡ length bs → ⊥) → Bad ≡ head_of bs
+    pub head_size_lem : (w + 2 ≡ length bs → ⊥) → None ≡ head_of bs
     head_size_lem a = not_right bs (λ h. a (ap (λ (n : ℕ). n + 2) is-w ∙ h.whole))
 
     -- all but version and counts is right: these decide
@@ -126,58 +89,36 @@ module _ (bs : List ℕ) where
 
     module _ (whole : w + 2 ≡ length bs) where
       -- version 1
-      pub head_1 : 9 ≤ length bs → get_or bs 2 0 ≡ 1 → (r : Head) → r ≡ head_for 1 (get_or bs 7 0) (get_or bs 8 0) → r ≡ head_of bs
+      pub head_1 : 9 ≤ length bs → get_or bs 2 0 ≡ 1 → (r : Option Head) → r ≡ head_for 1 (get_or bs 7 0) (get_or bs 8 0) → r ≡ head_of bs
       head_1 long is r e = e ∙ by_counts 1 (get_or bs 7 0) (get_or bs 8 0) whole long is (points_1 bs is) (scans_1 bs is)
 
       -- version 2
-      pub head_2 : 11 ≤ length bs → get_or bs 2 0 ≡ 2 → (p s : ℕ) → p ≡ word 2 bs 7 → s ≡ word 2 bs 9 → (r : Head) → r ≡ head_for 2 p s → r ≡ head_of bs
+      pub head_2 : 11 ≤ length bs → get_or bs 2 0 ≡ 2 → (p s : ℕ) → p ≡ word 2 bs 7 → s ≡ word 2 bs 9 → (r : Option Head) → r ≡ head_for 2 p s → r ≡ head_of bs
       unfolding point_count scan_count
       head_2 long is p s is-p is-s r e =
           e ∙ by_counts 2 p s whole long is (ap (λ (n : ℕ). word n bs 7) is ∙ sym is-p) (ap (λ (n : ℕ). word n bs (7 + n)) is ∙ sym is-s)
 
-  -- version 2 or above, and fewer bytes than the head of version 2 has
-  pub head_2_short : 2 ≤ get_or bs 2 0 → length bs < 11 → Bad ≡ head_of bs
-  head_2_short v a = not_right bs (λ h. omega (arith, first_at bs (get_or bs 2 0) refl, h.within))
-
-  -- another version
-  pub head_other : (get_or bs 2 0 ≡ 1 → ⊥) → (get_or bs 2 0 ≡ 2 → ⊥) → Bad ≡ head_of bs
-  head_other a b = not_right bs (λ h. right_version bs h (λ _ _ e. a e) (λ e. b e))
-
--- IS_LARGE
-
-module _ (bs : List ℕ) where
-  -- too short to have a version
-  pub large_short : length bs < 3 → false ≡ is_large bs
-  large_short a = let none : get_or bs 2 0 ≡ 0 = get_or-eq_default bs 0 {n = 2} (omega arith) in simp none
+  -- another version, or fewer bytes than the head of version 2 has
+  pub head_rest : (get_or bs 2 0 ≡ 1 → ⊥) → (get_or bs 2 0 ≡ 2 → 11 ≤ length bs → ⊥) → None ≡ head_of bs
+  head_rest a b = not_right bs (λ h. right_version bs h (λ _ _ e. a e) (λ e. b e (omega (arith, first_at bs 2 e, h.within))))
 
 -- WHAT HEAD_OF GAVE BACK
 
--- a head that is right
-pub record HeadFound (bs : List ℕ) (p s start : ℕ) : Type 0 where
-  pub ok : head_ok bs ≡ true
-  pub points : p ≡ point_count bs
-  pub scans : s ≡ scan_count bs
-  pub first : start ≡ first_point bs
-
-module _ (bs : List ℕ) (f : Head) (is : f ≡ head_of bs) where
+module _ (bs : List ℕ) (f : Option Head) (is : f ≡ head_of bs) where
   -- none was right
-  pub none_right : f ≡ Bad → head_ok bs ≡ false
+  pub none_right : f ≡ None → head_ok bs ≡ false
   unfolding head_of
-  none_right e =
-      by_case (head_ok bs)
-      (λ k. let z : Bad ≡ Counts (point_count bs) (scan_count bs) (first_point bs) = sym e ∙ is ∙ simp k in let y : ◌≡◌ {A = ℕ} 0 1 = cc in absurd (omega arith))
-      (λ k. k)
+  none_right e = by_case (head_ok bs) (λ k. let z : None ≡ Some (head_in bs) = sym e ∙ is ∙ simp k in cc) (λ k. k)
 
-  -- one was
-  pub head_found : (p s start : ℕ) → f ≡ Counts p s start → HeadFound bs p s start
-  unfolding head_of
-  head_found p s start e =
-      by_case (head_ok bs)
-      (λ k.
-      let z : Counts p s start ≡ Counts (point_count bs) (scan_count bs) (first_point bs) = sym e ∙ is ∙ simp k in
-      record { ok = k; points = cc; scans = cc; first = cc })
-      (λ k. let z : Counts p s start ≡ Bad = sym e ∙ is ∙ simp k in let y : ◌≡◌ {A = ℕ} 0 1 = cc in absurd (omega arith))
+  module _ (h : Head) (e : f ≡ Some h) where
+    -- one was
+    pub head_found : (head_ok bs ≡ true) × (h ≡ head_in bs)
+    unfolding head_of
+    head_found =
+        by_case (head_ok bs)
+        (λ k. let z : Some h ≡ Some (head_in bs) = sym e ∙ is ∙ simp k in (k, cc))
+        (λ k. let z : Some h ≡ None = sym e ∙ is ∙ simp k in cc)
 
-  -- the first point stands within the bytes
-  pub head_within : (p s start : ℕ) → f ≡ Counts p s start → start ≤ length bs
-  head_within p s start e = let h = head_found p s start e in omega (arith, h.first, (head_right bs h.ok).within)
+    -- the first point stands within the bytes
+    pub head_within : h.start ≤ length bs
+    head_within = omega (arith, ap (λ (x : Head). x.start) head_found.1, (head_right bs head_found.0).within)

@@ -1,6 +1,5 @@
 pub mod Cases
-pub mod PointLaws
-pub mod ScanLaws
+pub mod Runs
 pub mod FillLaws
 pub mod Versions
 pub mod HeadLaws
@@ -15,3 +14,4 @@ pub mod Sizes
 pub mod BytesParse
 pub mod ParseBytes
 pub mod RoundTrip
+pub mod Results

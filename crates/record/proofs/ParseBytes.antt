@@ -7,38 +7,28 @@ use mathlib.Core.List.{List, [], ◌∷◌, ◌++◌, append_assoc, append-nil}
 use native.Mathlib.Omega.{arith}
 use lib.ListN.{length, get_or, drop, length-drop}
 use lib.Seq.{drop-length}
-use lib.Dec.{ltb, eqb}
-use borrow.Author.Tests.{ltb-false, eqb-true}
+use lib.Dec.{eqb}
+use borrow.Author.Tests.{eqb-true}
 use Rattle.words.specs.Word.{Bytes, word, big_endian}
 use Rattle.words.specs.Laws.{word_fits}
 use Rattle.record.specs.declared.point.Point.{Point}
-use Rattle.record.specs.declared.point.Point.TheVariants.{Read, Put, Delete}
 use Rattle.record.specs.declared.point.Scan.{Scan}
-use Rattle.record.specs.declared.checker.PointStep.TheVariants as PointStep
-use Rattle.record.specs.declared.checker.ScanStep.TheVariants as ScanStep
-use Rattle.record.specs.Record.{Rec, key_of, payload_of, point_bytes, points_bytes, scan_bytes, scans_bytes, body_bytes, bytes_of, version_of, PointsRise, Apart, Valid}
-use Rattle.record.specs.Parse.{took, step_point, step_scan, parse_points, parse_scans, version_in, point_count, scan_count, first_point, head_ok, parse}
-use Rattle.record.proofs.Cases.{by_case, no_point, no_scan_lem, no_some, took_or, after_point_lem, after_scan_lem}
+use Rattle.std.specs.Prelude.{Some}
+use Rattle.record.specs.Record.{Rec, key_of, payload_of, point_bytes, points_bytes, scan_bytes, scans_bytes, body_bytes, bytes_of, version_of, size_of, PointsRise, Apart, Valid}
+use Rattle.record.specs.Parse.{took, step_point, step_scan, parse_run, parse_points, parse_scans, version_in, point_count, scan_count, first_point, head_ok, parse}
+use Rattle.record.specs.Steps.{by_point, by_scan}
+use Rattle.record.proofs.Cases.{by_case, no_some, took_or, after_took}
 use Rattle.record.proofs.Places.{byte_at, word_at}
-use Rattle.record.proofs.Sizes.{point_size}
 use Rattle.record.proofs.HeadLaws.{HeadRight, head_right, right_long}
 
 -- A POINT
 
 -- what is known of a point that was found at a place
-record PointIs (low : ℕ) (bs : List ℕ) (at : ℕ) (p : Point) (size : ℕ) : Type 0 where
-  size_is : size ≡ length (point_bytes p)
-  in_bytes : drop at bs ≡ point_bytes p ++ drop (at + size) bs
+record PointIs (low : ℕ) (bs : List ℕ) (at : ℕ) (p : Point) : Type 0 where
+  in_bytes : drop at bs ≡ point_bytes p ++ drop (at + size_of p) bs
   low_le : low ≤ key_of p
   key_lt : key_of p < 2 ^ 32
   payload_lt : payload_of p < 2 ^ 64
-
--- what a step reports
-point_is : (low : ℕ) (bs : List ℕ) (at : ℕ) (q p : Point) (k size : ℕ) → PointStep.Next q k ≡ PointStep.Next p size → PointIs low bs at q k → PointIs low bs at p size
-point_is low bs at q p k size e h =
-    let a : q ≡ p = cc in
-    let b : k ≡ size = cc in
-    subst (λ (x : Point). PointIs low bs at x size) a (subst (λ (n : ℕ). PointIs low bs at q n) b h)
 
 module _ (bs : List ℕ) (y : Bytes bs) (at : ℕ) where
   -- a kind and a key
@@ -57,41 +47,13 @@ module _ (bs : List ℕ) (y : Bytes bs) (at : ℕ) where
       ∙ ap (λ (l : List ℕ). kind ∷ l) (sym (append_assoc (big_endian 4 (word 4 bs (at + 1))) (big_endian 8 (word 8 bs (at + 5))) (drop (at + 13) bs)))
 
   -- a point that was found stands in the bytes, and keeps the rules
-  point_stands : (low : ℕ) (p : Point) (size : ℕ) → step_point low bs at ≡ PointStep.Next p size → PointIs low bs at p size
-  unfolding step_point
-  point_stands low p size e =
-      by_case (ltb (length bs) (at + 5)) (λ a. no_point (simp a at e)) λ a.
-      let l = ltb-false _ _ a in
-      let kl : word 4 bs (at + 1) < 2 ^ 32 = word_fits 4 bs (at + 1) y in
-      by_case (ltb (word 4 bs (at + 1)) low) (λ b. no_point (simp (a, b) at e)) λ b.
-      let ll = ltb-false _ _ b in
-      by_case (eqb (get_or bs at 0) 1)
-      (λ d. point_is low bs at _ p _ size (simp (a, b, d) at e) (record {
-        size_is = sym (point_size (Read (word 4 bs (at + 1))));
-        in_bytes = five 1 l (eqb-true _ _ d);
-        low_le = ll;
-        key_lt = kl;
-        payload_lt = omega arith;
-      })) λ d.
-      by_case (eqb (get_or bs at 0) 3)
-      (λ f. point_is low bs at _ p _ size (simp (a, b, d, f) at e) (record {
-        size_is = sym (point_size (Delete (word 4 bs (at + 1))));
-        in_bytes = five 3 l (eqb-true _ _ f);
-        low_le = ll;
-        key_lt = kl;
-        payload_lt = omega arith;
-      })) λ f.
-      by_case (eqb (get_or bs at 0) 2)
-      (λ g. by_case (ltb (length bs) (at + 13))
-      (λ h. no_point (simp (a, b, d, f, g, h) at e))
-      (λ h. point_is low bs at _ p _ size (simp (a, b, d, f, g, h) at e) (record {
-        size_is = sym (point_size (Put (word 4 bs (at + 1)) (word 8 bs (at + 5))));
-        in_bytes = thirteen 2 (ltb-false _ _ h) (eqb-true _ _ g);
-        low_le = ll;
-        key_lt = kl;
-        payload_lt = word_fits 8 bs (at + 5) y;
-      })))
-      (λ g. no_point (simp (a, b, d, f, g) at e))
+  point_stands : (low : ℕ) (p : Point) → step_point low bs at ≡ Some p → PointIs low bs at p
+  point_stands low p e =
+      let key_lt : word 4 bs (at + 1) < 2 ^ 32 = word_fits 4 bs (at + 1) y in
+      by_point (PointIs low bs at) low bs at p e
+      (λ h l k. record { in_bytes = five 1 h k; low_le = l; key_lt = key_lt; payload_lt = omega arith })
+      (λ h l k. record { in_bytes = five 3 h k; low_le = l; key_lt = key_lt; payload_lt = omega arith })
+      (λ h l k. record { in_bytes = thirteen 2 h k; low_le = l; key_lt = key_lt; payload_lt = word_fits 8 bs (at + 5) y })
 
 -- a run of points
 record PointsAre (n low : ℕ) (bs : List ℕ) (at : ℕ) (ps : List Point) (e : ℕ) : Type 0 where
@@ -101,16 +63,16 @@ record PointsAre (n low : ℕ) (bs : List ℕ) (at : ℕ) (ps : List Point) (e :
 
 -- each point of the run stands in the bytes
 points_stand : (n low : ℕ) (bs : List ℕ) (at : ℕ) (ps : List Point) (e : ℕ) → Bytes bs → parse_points n low bs at ≡ took ps e → PointsAre n low bs at ps e
-unfolding parse_points
+unfolding parse_run
 points_stand zero low bs at ps e y h =
     let a : ps ≡ [] = cc in
     let b : at ≡ e = cc in
     subst (λ (x : List Point). PointsAre zero low bs at x e) (sym a)
     (subst (λ (x : ℕ). PointsAre zero low bs at [] x) b (record { run = refl; rising = tt; count = refl }))
 points_stand (suc n) low bs at ps e y h =
-    after_point_lem (step_point low bs at) (λ p size. parse_points n (key_of p + 1) bs (at + size)) ps e h λ p size qs a b d.
-    let s : PointIs low bs at p size = point_stands bs y at low p size a in
-    let i : PointsAre n (key_of p + 1) bs (at + size) qs e = points_stand n (key_of p + 1) bs (at + size) qs e y b in
+    after_took (step_point low bs at) (λ p. parse_points n (key_of p + 1) bs (at + size_of p)) ps e h λ p qs a b d.
+    let s : PointIs low bs at p = point_stands bs y at low p a in
+    let i : PointsAre n (key_of p + 1) bs (at + size_of p) qs e = points_stand n (key_of p + 1) bs (at + size_of p) qs e y b in
     subst (λ (x : List Point). PointsAre (suc n) low bs at x e) (sym d) (record {
       run = s.in_bytes ∙ ap (λ (l : List ℕ). point_bytes p ++ l) i.run ∙ sym (append_assoc (point_bytes p) (points_bytes qs) (drop e bs));
       rising = (s.low_le, s.key_lt, s.payload_lt, i.rising);
@@ -134,20 +96,9 @@ module _ (bs : List ℕ) (y : Bytes bs) (at : ℕ) where
       ∙ sym (append_assoc (big_endian 4 (word 4 bs at)) (big_endian 4 (word 4 bs (at + 4))) (drop (at + 8) bs))
 
   -- a scan that was found stands in the bytes, and keeps the rules
-  scan_stands : (low : ℕ) (c : Scan) → step_scan low bs at ≡ ScanStep.Next c → ScanIs low bs at c
-  unfolding step_scan
+  scan_stands : (low : ℕ) (c : Scan) → step_scan low bs at ≡ Some c → ScanIs low bs at c
   scan_stands low c e =
-      by_case (ltb (length bs) (at + 8)) (λ a. no_scan_lem (simp a at e)) λ a.
-      by_case (ltb (word 4 bs at) low) (λ b. no_scan_lem (simp (a, b) at e)) λ b.
-      by_case (ltb (word 4 bs (at + 4)) (word 4 bs at)) (λ d. no_scan_lem (simp (a, b, d) at e)) λ d.
-      let z : ScanStep.Next (record { low = word 4 bs at; high = word 4 bs (at + 4) }) ≡ ScanStep.Next c = simp (a, b, d) at e in
-      let q : record { low = word 4 bs at; high = word 4 bs (at + 4) } ≡ c = cc in
-      subst (λ (x : Scan). ScanIs low bs at x) q (record {
-        in_bytes = eight (ltb-false _ _ a);
-        low_le = ltb-false _ _ b;
-        high_le = ltb-false _ _ d;
-        high_lt = word_fits 4 bs (at + 4) y;
-      })
+      by_scan (ScanIs low bs at) low bs at c e (λ h l k. record { in_bytes = eight h; low_le = l; high_le = k; high_lt = word_fits 4 bs (at + 4) y })
 
 -- a run of scans
 record ScansAre (n low : ℕ) (bs : List ℕ) (at : ℕ) (cs : List Scan) (e : ℕ) : Type 0 where
@@ -157,14 +108,14 @@ record ScansAre (n low : ℕ) (bs : List ℕ) (at : ℕ) (cs : List Scan) (e : �
 
 -- each scan of the run stands in the bytes
 scans_stand : (n low : ℕ) (bs : List ℕ) (at : ℕ) (cs : List Scan) (e : ℕ) → Bytes bs → parse_scans n low bs at ≡ took cs e → ScansAre n low bs at cs e
-unfolding parse_scans
+unfolding parse_run
 scans_stand zero low bs at cs e y h =
     let a : cs ≡ [] = cc in
     let b : at ≡ e = cc in
     subst (λ (x : List Scan). ScansAre zero low bs at x e) (sym a)
     (subst (λ (x : ℕ). ScansAre zero low bs at [] x) b (record { run = refl; apart = tt; count = refl }))
 scans_stand (suc n) low bs at cs e y h =
-    after_scan_lem (step_scan low bs at) (λ c. parse_scans n (c.high + 1) bs (at + 8)) cs e h λ c ds a b d.
+    after_took (step_scan low bs at) (λ c. parse_scans n (c.high + 1) bs (at + 8)) cs e h λ c ds a b d.
     let s : ScanIs low bs at c = scan_stands bs y at low c a in
     let i : ScansAre n (c.high + 1) bs (at + 8) ds e = scans_stand n (c.high + 1) bs (at + 8) ds e y b in
     subst (λ (x : List Scan). ScansAre (suc n) low bs at x e) (sym d) (record {

@@ -11,9 +11,9 @@ use borrow.Author.Tests.{le-leb, eq-eqb}
 use Rattle.record.specs.declared.point.Point.{Point}
 use Rattle.record.specs.declared.point.Scan.{Scan}
 use Rattle.record.specs.Record.{Rec}
-use Rattle.record.specs.Parse.{version_in, point_count, scan_count, is_large, parse}
+use Rattle.record.specs.Parse.{point_items, scan_items, version_in, point_count, scan_count, is_large, parse}
 use Rattle.record.specs.Reader.{Lists, lists, roomy, RoomFor}
-use Rattle.record.proofs.Lengths.{points_length, scans_length}
+use Rattle.record.proofs.Lengths.{run_length}
 use Rattle.record.proofs.HeadLaws.{right_version}
 use Rattle.record.proofs.WellFormed.{parsed_good}
 
@@ -31,13 +31,13 @@ module _ (bs : List ℕ) (r : Rec) (e : parse bs ≡ some r) where
   points_counted : length r.points ≡ point_count bs
   points_counted =
       let g = parsed_good bs r e in
-      ap (λ (o : Option Rec). length (points_of o)) (sym e ∙ g.is) ∙ points_length (point_count bs) 0 bs _ g.points_took
+      ap (λ (o : Option Rec). length (points_of o)) (sym e ∙ g.is) ∙ run_length point_items (point_count bs) 0 bs _ g.points_took
 
   -- and as many scans
   scans_counted : length r.scans ≡ scan_count bs
   scans_counted =
       let g = parsed_good bs r e in
-      ap (λ (o : Option Rec). length (scans_of o)) (sym e ∙ g.is) ∙ scans_length (scan_count bs) 0 bs _ g.scans_took
+      ap (λ (o : Option Rec). length (scans_of o)) (sym e ∙ g.is) ∙ run_length scan_items (scan_count bs) 0 bs _ g.scans_took
 
   -- R6, R7
   pub parsed_few : (length r.points ≤ 1024) × (length r.scans ≤ 64)

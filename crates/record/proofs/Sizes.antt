@@ -10,13 +10,7 @@ use Rattle.words.specs.Laws.{length_big_endian}
 use Rattle.record.specs.declared.point.Point.{Point}
 use Rattle.record.specs.declared.point.Point.TheVariants.{Read, Put, Delete}
 use Rattle.record.specs.declared.point.Scan.{Scan}
-use Rattle.record.specs.Record.{Rec, point_bytes, points_bytes, scan_bytes, scans_bytes, body_bytes, bytes_of, version_of, head_size}
-
--- R8: 5 or 13 bytes each
-abbrev pub size_of : Point → ℕ
-size_of (Read k) = 5
-size_of (Put k x) = 13
-size_of (Delete k) = 5
+use Rattle.record.specs.Record.{Rec, point_bytes, points_bytes, scan_bytes, scans_bytes, body_bytes, bytes_of, version_of, head_size, size_of}
 
 -- a point has its size
 pub point_size : (p : Point) → length (point_bytes p) ≡ size_of p

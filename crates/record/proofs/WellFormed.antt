@@ -9,9 +9,10 @@ use native.Mathlib.Omega.{arith}
 use lib.ListN.{length}
 use lib.Dec.{eqb}
 use Rattle.words.specs.Word.{word}
+use Rattle.std.specs.Prelude.{Option as Optional, Some, None}
 use Rattle.record.specs.declared.checker.Head.{Head}
 use Rattle.record.specs.Record.{Rec}
-use Rattle.record.specs.Parse.{parse_points, parse_scans, is_took, list_of, place_of, point_count, scan_count, first_point, head_ok, parse, well_formed}
+use Rattle.record.specs.Parse.{parse_points, parse_scans, is_took, list_of, place_of, point_count, scan_count, first_point, head_ok, head_in, parse, well_formed}
 use Rattle.record.proofs.Cases.{by_case, no_some, took_or, took_end}
 use Rattle.record.proofs.HeadLaws.{HeadRight, head_right, right_long}
 use Rattle.record.proofs.CheckLaws.{points_within}
@@ -52,47 +53,41 @@ parsed_good bs r e =
     (λ k. no_some (simp k at e))
 
 -- a head that `well_formed` gave back is of bytes that parse
-module _ (bs : List ℕ) (f : Head) (is : f ≡ well_formed (parse bs) bs) where
+module _ (bs : List ℕ) (f : Optional Head) (is : f ≡ well_formed (parse bs) bs) where
   -- no head: no record
-  pub refused_none : f ≡ Head.Bad → parse bs ≡ none
+  pub refused_none : f ≡ None → parse bs ≡ none
   refused_none e = none_if (parse bs) (sym e ∙ is)
     where
-      none_if : (x : Option Rec) → Head.Bad ≡ well_formed x bs → x ≡ none
+      none_if : (x : Option Rec) → None ≡ well_formed x bs → x ≡ none
       none_if none z = refl
-      none_if (some r) z = let y : ◌≡◌ {A = ℕ} 0 1 = cc in absurd (omega arith)
+      none_if (some r) z = cc
 
-  module _ (p s start : ℕ) (e : f ≡ Head.Counts p s start) where
+  module _ (h : Head) (e : f ≡ Some h) where
     -- a head: a record, with what it says
-    pub good : Good bs p s start
+    pub good : Good bs h.points h.scans h.start
     good = from (parse bs) refl (sym e ∙ is)
       where
-        from : (x : Option Rec) → parse bs ≡ x → Head.Counts p s start ≡ well_formed x bs → Good bs p s start
-        from none i z = let y : ◌≡◌ {A = ℕ} 0 1 = cc in absurd (omega arith)
-        from (some r) i z =
-            let a : point_count bs ≡ p = cc in
-            let b : scan_count bs ≡ s = cc in
-            let d : first_point bs ≡ start = cc in
-            subst (λ (n : ℕ). Good bs n s start) a
-            (subst (λ (n : ℕ). Good bs (point_count bs) n start) b
-            (subst (λ (n : ℕ). Good bs (point_count bs) (scan_count bs) n) d (parsed_good bs r i)))
+        from : (x : Option Rec) → parse bs ≡ x → Some h ≡ well_formed x bs → Good bs h.points h.scans h.start
+        from none i z = cc
+        from (some r) i z = let a : head_in bs ≡ h = cc in subst (λ (x : Head). Good bs x.points x.scans x.start) a (parsed_good bs r i)
 
     -- nine bytes at the least
     pub checked_long : (k : ℕ) → k ≤ 9 → k ≤ length bs
-    checked_long k h = omega (arith, right_long bs good.right)
+    checked_long k n = omega (arith, right_long bs good.right)
 
     -- the first point stands within them
-    pub checked_start : start ≤ length bs
+    pub checked_start : h.start ≤ length bs
     checked_start = good.long
 
     -- the points are taken
-    pub checked_points : is_took (parse_points p 0 bs start) ≡ true
+    pub checked_points : is_took (parse_points h.points 0 bs h.start) ≡ true
     checked_points = good.points_took
 
-    module _ (at : ℕ) (i : at ≡ place_of (parse_points p 0 bs start)) where
+    module _ (at : ℕ) (i : at ≡ place_of (parse_points h.points 0 bs h.start)) where
       -- they end within the bytes
       pub checked_within : at ≤ length bs
       checked_within = omega (arith, good.within)
 
       -- the scans behind them are taken
-      pub checked_scans : is_took (parse_scans s 0 bs at) ≡ true
+      pub checked_scans : is_took (parse_scans h.scans 0 bs at) ≡ true
       checked_scans = rw i good.scans_took

@@ -1,5 +1,6 @@
 -- The answers (R3), each number with its name, as the library's constants have them.
 -- Assumes nothing: these are definitions.
+use Rattle.std.specs.Prelude.{ℕ, Result, Ok, Err}
 use Rattle.record.specs.declared.answer.Answer.{Answer}
 
 -- R3: 0
@@ -53,3 +54,8 @@ impossible_length = record { number = 11 }
 -- R3: 12
 abbrev pub cannot_join : Answer
 cannot_join = record { number = 12 }
+
+-- R10, R56: the number that is given back, as a size; 0 with a refusal
+abbrev pub given : Result ℕ Answer → ℕ
+given (Ok n) = n
+given (Err a) = 0

@@ -3,43 +3,56 @@
 -- Assumes nothing: these are definitions.
 use Rattle.std.specs.Prelude.{ℕ, zero, suc, ◌+◌, Bool, true, false, ◌&&◌, ◌≡◌, List, [], ◌∷◌, length, get_or, leb, ltb, eqb}
 use Rattle.std.proofs.Math.Option.{Option, none, some}
+use Rattle.std.specs.Prelude.{Option as Optional, Some, None}
 use Rattle.std.specs.Prelude.{if◌then◌else◌}
 use Rattle.words.specs.Word.{word}
 use Rattle.record.specs.declared.answer.Answer.{Answer}
 use Rattle.record.specs.declared.point.Point.{Point}
 use Rattle.record.specs.declared.point.Point.TheVariants.{Read, Put, Delete}
 use Rattle.record.specs.declared.point.Scan.{Scan}
-use Rattle.record.specs.declared.checker.PointStep.{PointStep}
-use Rattle.record.specs.declared.checker.ScanStep.{ScanStep}
-use Rattle.record.specs.declared.checker.End.{End}
 use Rattle.record.specs.declared.checker.Head.{Head}
 use Rattle.record.specs.Answer.{committed, malformed}
-use Rattle.record.specs.Record.{Rec, key_of, max_points, max_scans, version_for, count_width, head_size}
+use Rattle.record.specs.Record.{Rec, key_of, size_of, max_points, max_scans, version_for, count_width, head_size}
 
 -- the point of the kind given whose bytes stand at a place
-abbrev pub point_as : ℕ → List ℕ → ℕ → PointStep
+abbrev pub point_as : ℕ → List ℕ → ℕ → Optional Point
 point_as kind bs at =
-    if eqb kind 1 then PointStep.Next (Read (word 4 bs (at + 1))) 5 else
-    if eqb kind 3 then PointStep.Next (Delete (word 4 bs (at + 1))) 5 else
-    if eqb kind 2 then (if ltb (length bs) (at + 13) then PointStep.Bad else PointStep.Next (Put (word 4 bs (at + 1)) (word 8 bs (at + 5))) 13) else
-    PointStep.Bad
+    if eqb kind 1 then Some (Read (word 4 bs (at + 1))) else
+    if eqb kind 3 then Some (Delete (word 4 bs (at + 1))) else
+    if eqb kind 2 then (if ltb (length bs) (at + 13) then None else Some (Put (word 4 bs (at + 1)) (word 8 bs (at + 5)))) else
+    None
 
--- the point at a place, with its size, if its kind is known, it lies within the bytes and its key is at least low
-unfoldable pub step_point : ℕ → List ℕ → ℕ → PointStep
+-- the point at a place, if its kind is known, it lies within the bytes and its key is at least low
+unfoldable pub step_point : ℕ → List ℕ → ℕ → Optional Point
 step_point low bs at =
-    if ltb (length bs) (at + 5) then PointStep.Bad else
-    if ltb (word 4 bs (at + 1)) low then PointStep.Bad else
+    if ltb (length bs) (at + 5) then None else
+    if ltb (word 4 bs (at + 1)) low then None else
     point_as (get_or bs at 0) bs at
 
 -- the scan at a place, if it lies within the bytes, its low is at least the floor and at most its high
-unfoldable pub step_scan : ℕ → List ℕ → ℕ → ScanStep
+unfoldable pub step_scan : ℕ → List ℕ → ℕ → Optional Scan
 step_scan floor bs at =
-    if ltb (length bs) (at + 8) then ScanStep.Bad else
-    if ltb (word 4 bs at) floor then ScanStep.Bad else
-    if ltb (word 4 bs (at + 4)) (word 4 bs at) then ScanStep.Bad else
-    ScanStep.Next (record { low = word 4 bs at; high = word 4 bs (at + 4) })
+    if ltb (length bs) (at + 8) then None else
+    if ltb (word 4 bs at) floor then None else
+    if ltb (word 4 bs (at + 4)) (word 4 bs at) then None else
+    Some (record { low = word 4 bs at; high = word 4 bs (at + 4) })
 
--- what a run of points or scans comes to: a list of them and the place past them, or a refusal
+-- how items stand one behind the other: the item at a place, if it keeps the rules and is no lower than a number; how many bytes it has; and the
+-- number that the item behind it must reach
+pub record Items (A : Type 0) : Type 0 where
+  pub step : ℕ → List ℕ → ℕ → Optional A
+  pub size : A → ℕ
+  pub above : A → ℕ
+
+-- each key is above the one before
+abbrev pub point_items : Items Point
+point_items = record { step = step_point; size = size_of; above = λ p. key_of p + 1 }
+
+-- each low is above the high before it
+abbrev pub scan_items : Items Scan
+scan_items = record { step = step_scan; size = λ c. 8; above = λ c. c.high + 1 }
+
+-- what a run of items comes to: a list of them and the place past them, or a refusal
 pub data Parsed (A : Type 0) : Type 0 where
   bad : Parsed A
   took : List A → ℕ → Parsed A
@@ -49,28 +62,28 @@ abbrev pub also : {A : Type 0} → A → Parsed A → Parsed A
 also a bad = bad
 also a (took xs at) = took (a ∷ xs) at
 
-abbrev pub after_point : PointStep → (Point → ℕ → Parsed Point) → Parsed Point
-after_point PointStep.Bad rest = bad
-after_point (PointStep.Next p size) rest = also p (rest p size)
+-- an item, if there is one, and then what follows it
+abbrev pub after : {A : Type 0} → Optional A → (A → Parsed A) → Parsed A
+after None rest = bad
+after (Some a) rest = also a (rest a)
 
-abbrev pub after_scan : ScanStep → (Scan → Parsed Scan) → Parsed Scan
-after_scan ScanStep.Bad rest = bad
-after_scan (ScanStep.Next c) rest = also c (rest c)
+-- n items from a place on, the first no lower than a number
+unfoldable pub parse_run : {A : Type 0} → Items A → ℕ → ℕ → List ℕ → ℕ → Parsed A
+parse_run k zero low bs at = took [] at
+parse_run k (suc n) low bs at = after (k.step low bs at) (λ a. parse_run k n (k.above a) bs (at + k.size a))
 
 -- n points from a place on, the first key at least low, each above the one before
-unfoldable pub parse_points : ℕ → ℕ → List ℕ → ℕ → Parsed Point
-parse_points zero low bs at = took [] at
-parse_points (suc n) low bs at = after_point (step_point low bs at) (λ p size. parse_points n (key_of p + 1) bs (at + size))
+abbrev pub parse_points : ℕ → ℕ → List ℕ → ℕ → Parsed Point
+parse_points = parse_run point_items
 
 -- n scans from a place on, the first low at least the floor, each above the high before it
-unfoldable pub parse_scans : ℕ → ℕ → List ℕ → ℕ → Parsed Scan
-parse_scans zero floor bs at = took [] at
-parse_scans (suc n) floor bs at = after_scan (step_scan floor bs at) (λ c. parse_scans n (c.high + 1) bs (at + 8))
+abbrev pub parse_scans : ℕ → ℕ → List ℕ → ℕ → Parsed Scan
+parse_scans = parse_run scan_items
 
 -- where a run ends
-abbrev pub end_of : {A : Type 0} → Parsed A → End
-end_of bad = End.Bad
-end_of (took xs at) = End.At at
+abbrev pub end_of : {A : Type 0} → Parsed A → Optional ℕ
+end_of bad = None
+end_of (took xs at) = Some at
 
 -- whether a run was taken, its list, and the place past it (0 for a refusal)
 abbrev pub is_took : {A : Type 0} → Parsed A → Bool
@@ -108,12 +121,17 @@ head_ok bs =
     leb (first_point bs) (length bs) && (eqb (word 2 bs 0 + 2) (length bs) && counts_ok (version_in bs) (point_count bs) (scan_count bs))
 
 -- how many points and scans there are, and where the first point stands, if version and counts are right
-unfoldable pub head_for : ℕ → ℕ → ℕ → Head
-head_for version points scans = if counts_ok version points scans then Head.Counts points scans (head_size version) else Head.Bad
+unfoldable pub head_for : ℕ → ℕ → ℕ → Optional Head
+head_for version points scans =
+    if counts_ok version points scans then Some (record { points = points; scans = scans; start = head_size version }) else None
 
--- the same of bytes, if the whole head is right
-unfoldable pub head_of : List ℕ → Head
-head_of bs = if head_ok bs then Head.Counts (point_count bs) (scan_count bs) (first_point bs) else Head.Bad
+-- the same of bytes
+abbrev pub head_in : List ℕ → Head
+head_in bs = record { points = point_count bs; scans = scan_count bs; start = first_point bs }
+
+-- if the whole head is right
+unfoldable pub head_of : List ℕ → Optional Head
+head_of bs = if head_ok bs then Some (head_in bs) else None
 
 abbrev pub on_took : {A B : Type 0} → Parsed A → (List A → ℕ → Option B) → Option B
 on_took bad f = none
@@ -129,9 +147,9 @@ parse bs =
     else none
 
 -- the head of a record that is well formed
-abbrev pub well_formed : Option Rec → List ℕ → Head
-well_formed none bs = Head.Bad
-well_formed (some r) bs = Head.Counts (point_count bs) (scan_count bs) (first_point bs)
+abbrev pub well_formed : Option Rec → List ℕ → Optional Head
+well_formed none bs = None
+well_formed (some r) bs = Some (head_in bs)
 
 -- R53: the version byte says 2; a record with another is malformed or has at most 64 points and at most 8 scans
 abbrev pub is_large : List ℕ → Bool

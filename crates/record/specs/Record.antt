@@ -55,6 +55,12 @@ payload_of (Read k) = 0
 payload_of (Put k x) = x
 payload_of (Delete k) = 0
 
+-- R8: how many bytes a point has
+abbrev pub size_of : Point → ℕ
+size_of (Read k) = 5
+size_of (Put k x) = 13
+size_of (Delete k) = 5
+
 -- R4: kind, key and, in a put only, payload
 abbrev pub point_bytes : Point → List ℕ
 point_bytes (Read k) = 1 ∷ big_endian 4 k
@@ -113,13 +119,17 @@ pub record RecordSized (r : Rec) : Type 0 where
   pub field_most : word 2 (bytes_of r) 0 ≤ 13833
   pub field : word 2 (bytes_of r) 0 + 2 ≡ length (bytes_of r)
 
--- R5: what `kind`, `key` and `payload` promise of a point
+-- R5: what `kind`, `key`, `size` and `payload` promise of a point
 abbrev pub KindIs : Point → ℕ → Type 0
 KindIs q n = n ≡ kind_of q
 
 -- R4
 abbrev pub KeyIs : Point → ℕ → Type 0
 KeyIs q n = n ≡ key_of q
+
+-- R8
+abbrev pub SizeIs : Point → ℕ → Type 0
+SizeIs q n = n ≡ size_of q
 
 -- R10
 abbrev pub PayloadIs : Point → ℕ → Type 0

@@ -4,14 +4,13 @@
 // Nothing here knows of a pool or a tree.
 pub mod answer;
 mod checker;
+mod item;
 pub mod limits;
 pub mod point;
 mod reader;
 
 pub use answer::Answer;
-pub use checker::{
-    End, Head, PointStep, ScanStep, check, head_of, head_size, is_large, point_at, scan_at,
-    version_for,
-};
+pub use checker::{Head, check, head_of, head_size, is_large, point_at, scan_at, version_for};
+pub use item::Item;
 pub use point::{Point, Scan};
 pub use reader::{Reading, read};

@@ -1,5 +1,12 @@
 // What a record names: points, each a read, a put or a delete of one key, and scans of a range of keys.
-ghost use Rattle.record.specs.Record.{KindIs, KeyIs, PayloadIs};
+ghost use Rattle.record.specs.Record.{KindIs, KeyIs, SizeIs, PayloadIs};
+
+// The kinds' numbers in a record's bytes and in lists.
+pub const READ: u8 = 1;
+
+pub const PUT: u8 = 2;
+
+pub const DELETE: u8 = 3;
 
 #[derive(Clone, Copy)]
 pub enum Point {
@@ -18,14 +25,14 @@ pub struct Scan {
 }
 
 impl Point {
-    // The kind's number in a record's bytes.
+    // The kind's number in a record's bytes. A method, as the key and the size are, since C and the rules name each of them.
     pub fn kind(self) -> u8
         ensures { KindIs self result }
     {
         match self {
-            Point::Read(_) => 1,
-            Point::Put(_, _) => 2,
-            Point::Delete(_) => 3,
+            Point::Read(_) => READ,
+            Point::Put(_, _) => PUT,
+            Point::Delete(_) => DELETE,
         }
     }
 
@@ -33,9 +40,17 @@ impl Point {
         ensures { KeyIs self result }
     {
         match self {
-            Point::Read(key) => key,
-            Point::Put(key, _) => key,
-            Point::Delete(key) => key,
+            Point::Read(key) | Point::Put(key, _) | Point::Delete(key) => key,
+        }
+    }
+
+    // How many bytes the point has in a record.
+    pub fn size(self) -> usize
+        ensures { SizeIs self result }
+    {
+        match self {
+            Point::Put(_, _) => 13,
+            Point::Read(_) | Point::Delete(_) => 5,
         }
     }
 
@@ -44,9 +59,8 @@ impl Point {
         ensures { PayloadIs self result }
     {
         match self {
-            Point::Read(_) => 0,
             Point::Put(_, payload) => payload,
-            Point::Delete(_) => 0,
+            Point::Read(_) | Point::Delete(_) => 0,
         }
     }
 }

@@ -4,14 +4,12 @@
 // `record_abi_c` exports these five, and nothing of a pool; `abi` has the same five beside those of the pool, with the same promises.
 pub mod numbers;
 
-ghost use Rattle.record.specs.Reader.{lists, ReadsAs};
-ghost use Rattle.writer.specs.Writer.{WritesAs};
-ghost use Rattle.joiner.specs.Joiner.{JoinsAs};
-ghost use Rattle.record_abi.specs.Numbers.{reading, written, joined, found};
-ghost use Rattle.record_abi.specs.Told.{ChecksAs, CutsAs};
+ghost use Rattle.record.specs.Reader.{lists};
+ghost use Rattle.record_abi.specs.Numbers.{reading, sized, found};
+ghost use Rattle.record_abi.specs.Told.{ChecksAs, ReadsInNumbers, WritesInNumbers, JoinsInNumbers, CutsAs};
 
 use joiner::join;
-use numbers::of_cut;
+use numbers::{ReadingNumbers, SizeNumbers, of_cut};
 use record::{check, read};
 use record_log::cut;
 use writer::write;
@@ -20,8 +18,7 @@ use writer::write;
 pub fn emuparasol_check(record: &[u8]) -> u8
     ensures { ChecksAs «record».now result }
 {
-    let answer = check(record);
-    answer.number
+    check(record).number
 }
 
 // Reads a record into the fronts of the lists: 4, 8 or 0, with the snapshot and both counts, all three 0 on a refusal.
@@ -36,17 +33,16 @@ pub fn emuparasol_read(
     points: &mut usize,
     scans: &mut usize,
 ) -> u8
-    ensures { ReadsAs «record».now
+    ensures { ReadsInNumbers «record».now
         (lists kinds.old keys.old payloads.old lows.old highs.old)
         (reading result snapshot.new points.new scans.new)
         (lists kinds.new keys.new payloads.new lows.new highs.new) }
 {
-    let reading = read(record, kinds, keys, payloads, lows, highs);
+    let reading = ReadingNumbers::from(read(record, kinds, keys, payloads, lows, highs));
     *snapshot = reading.snapshot;
     *points = reading.points;
     *scans = reading.scans;
-    let answer = reading.answer;
-    answer.number
+    reading.number
 }
 
 // Writes the record that the lists name to the front of the output: 4, 8 or 0, with its size, 0 on a refusal.
@@ -60,24 +56,22 @@ pub fn emuparasol_write(
     output: &mut [u8],
     size: &mut usize,
 ) -> u8
-    ensures { WritesAs snapshot
+    ensures { WritesInNumbers snapshot
         (lists kinds.now keys.now payloads.now lows.now highs.now)
-        output.old (written result size.new) output.new }
+        output.old (sized result size.new) output.new }
 {
-    let written = write(snapshot, kinds, keys, payloads, lows, highs, output);
+    let written = SizeNumbers::from(write(snapshot, kinds, keys, payloads, lows, highs, output));
     *size = written.size;
-    let answer = written.answer;
-    answer.number
+    written.number
 }
 
 // Joins two records, meant for one position and the next, into one at the front of the output: 12, 8 or 0, with its size, 0 on a refusal.
 pub fn emuparasol_join(a: &[u8], b: &[u8], output: &mut [u8], size: &mut usize) -> u8
-    ensures { JoinsAs a.now b.now output.old (joined result size.new) output.new }
+    ensures { JoinsInNumbers a.now b.now output.old (sized result size.new) output.new }
 {
-    let joined = join(a, b, output);
+    let joined = SizeNumbers::from(join(a, b, output));
     *size = joined.size;
-    let answer = joined.answer;
-    answer.number
+    joined.number
 }
 
 // What stands at a place of a log: 10 for a torn log and 11 for an impossible length, both with the same place; else 0, with the place past the

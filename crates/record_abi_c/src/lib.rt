@@ -2,11 +2,9 @@
 
 // FOR C AND RUST, the record part alone: the functions of `record_abi` under their own names in an archive, for host tools that need no pool. `abi_c`
 // exports the same five beside those of the pool, with the same promises.
-ghost use Rattle.record.specs.Reader.{lists, ReadsAs};
-ghost use Rattle.writer.specs.Writer.{WritesAs};
-ghost use Rattle.joiner.specs.Joiner.{JoinsAs};
-ghost use Rattle.record_abi.specs.Numbers.{reading, written, joined, found};
-ghost use Rattle.record_abi.specs.Told.{ChecksAs, CutsAs};
+ghost use Rattle.record.specs.Reader.{lists};
+ghost use Rattle.record_abi.specs.Numbers.{reading, sized, found};
+ghost use Rattle.record_abi.specs.Told.{ChecksAs, ReadsInNumbers, WritesInNumbers, JoinsInNumbers, CutsAs};
 
 // 0 where the bytes lent are exactly one well-formed record, else 4.
 #[unsafe(no_mangle)]
@@ -29,7 +27,7 @@ pub extern "C" fn emuparasol_read(
     points: &mut usize,
     scans: &mut usize,
 ) -> u8
-    ensures { ReadsAs «record».now
+    ensures { ReadsInNumbers «record».now
         (lists kinds.old keys.old payloads.old lows.old highs.old)
         (reading result snapshot.new points.new scans.new)
         (lists kinds.new keys.new payloads.new lows.new highs.new) }
@@ -51,9 +49,9 @@ pub extern "C" fn emuparasol_write(
     output: &mut [u8],
     size: &mut usize,
 ) -> u8
-    ensures { WritesAs snapshot
+    ensures { WritesInNumbers snapshot
         (lists kinds.now keys.now payloads.now lows.now highs.now)
-        output.old (written result size.new) output.new }
+        output.old (sized result size.new) output.new }
 {
     record_abi::emuparasol_write(snapshot, kinds, keys, payloads, lows, highs, output, size)
 }
@@ -61,7 +59,7 @@ pub extern "C" fn emuparasol_write(
 // Joins two records, meant for one position and the next, into one at the front of the output: 12, 8 or 0, with its size, 0 on a refusal.
 #[unsafe(no_mangle)]
 pub extern "C" fn emuparasol_join(a: &[u8], b: &[u8], output: &mut [u8], size: &mut usize) -> u8
-    ensures { JoinsAs a.now b.now output.old (joined result size.new) output.new }
+    ensures { JoinsInNumbers a.now b.now output.old (sized result size.new) output.new }
 {
     record_abi::emuparasol_join(a, b, output, size)
 }

@@ -2,17 +2,13 @@
 -- Assumes nothing.
 use mathlib.Core.Path.{◌≡◌, refl, sym, ap, ◌∙◌}
 use Prim.Native.Nat.{ℕ, ◌+◌, ◌-◌}
-use mathlib.Core.List.{List, [], ◌∷◌}
-use mathlib.Core.Logic.{⊎_elim}
+use mathlib.Core.List.{List, []}
 use native.Mathlib.Omega.{arith}
 use lib.ListN.{take, drop}
 use denote.Ref.{Bor}
-use denote.Enum.Declared.{tag_of}
-use types.Run.{OneOf}
 use Rattle.record_log.specs.declared.found.Cut.{Cut}
 use Rattle.record_log.specs.declared.found.Cut.TheVariants.{End, Torn, Impossible, Record}
 use Rattle.record_log.specs.Log.{cut_at, part_of, start_of, HandedOut, RecordAt}
-use Rattle.record_log.specs.contracts.found.Cut as T
 use Rattle.record_log.proofs.Stands.{record_tells}
 
 -- where `cut` answers a record, one stands there
@@ -20,26 +16,26 @@ pub stands : (log : List ℕ) (place next : ℕ) (c : Cut) → c ≡ cut_at log 
 stands log place next c is found = record_tells log place next (sym is ∙ found)
 
 module _ (log : Bor (List ℕ)) (place : ℕ) (c : Cut) (is : c ≡ cut_at log.now place) where
-  -- where `let .. else` goes on with none of the named variant, what is known is the tag
-  pub hands_none : OneOf (0 ∷ 1 ∷ 2 ∷ []) (tag_of T.the_type c) → HandedOut log place (record { ref_ptr = (log.ref_ptr.0, 0 + log.ref_ptr.1); now = [] })
-  hands_none tag =
+  -- none of them, where no record stands
+  pub hands_none : ((next : ℕ) → c ≡ Record next → ⊥) → HandedOut log place (record { ref_ptr = log.ref_ptr; now = [] })
+  hands_none other =
       record {
-        bytes = sym (ap (λ (x : Cut). part_of x log.now place) (sym is) ∙ no_part c tag);
+        bytes = sym (ap (λ (x : Cut). part_of x log.now place) (sym is) ∙ no_part c other);
         block = refl;
-        start = omega (arith, ap (λ (x : Cut). start_of x place) (sym is) ∙ no_start c tag);
+        start = omega (arith, ap (λ (x : Cut). start_of x place) (sym is) ∙ no_start c other);
       }
     where
-      no_part : (x : Cut) → OneOf (0 ∷ 1 ∷ 2 ∷ []) (tag_of T.the_type x) → part_of x log.now place ≡ []
-      no_part End h = refl
-      no_part Torn h = refl
-      no_part Impossible h = refl
-      no_part (Record n) h = absurd (⊎_elim (λ e. omega arith) (λ k. ⊎_elim (λ e. omega arith) (λ e. omega arith) k) h)
+      no_part : (x : Cut) → ((next : ℕ) → x ≡ Record next → ⊥) → part_of x log.now place ≡ []
+      no_part End other = refl
+      no_part Torn other = refl
+      no_part Impossible other = refl
+      no_part (Record n) other = absurd (other n refl)
 
-      no_start : (x : Cut) → OneOf (0 ∷ 1 ∷ 2 ∷ []) (tag_of T.the_type x) → start_of x place ≡ 0
-      no_start End h = refl
-      no_start Torn h = refl
-      no_start Impossible h = refl
-      no_start (Record n) h = absurd (⊎_elim (λ e. omega arith) (λ k. ⊎_elim (λ e. omega arith) (λ e. omega arith) k) h)
+      no_start : (x : Cut) → ((next : ℕ) → x ≡ Record next → ⊥) → start_of x place ≡ 0
+      no_start End other = refl
+      no_start Torn other = refl
+      no_start Impossible other = refl
+      no_start (Record n) other = absurd (other n refl)
 
   -- the bytes from the first to the last of them, where those are the record's
   pub hands_record : (next : ℕ) → c ≡ Record next → (first last : ℕ) → first ≡ place → last ≡ next

@@ -1,25 +1,13 @@
--- Which lengths no record has (R14): the test, and what it tells.
+-- Which lengths no record has (R14): what the test tells.
 -- Assumes nothing.
 use Prim.Native.Nat.{ℕ, ◌≤◌, ◌<◌}
-use mathlib.Core.Path.{◌≡◌, sym, ap}
+use mathlib.Core.Path.{◌≡◌}
 use mathlib.Core.Logic.{◌⊎◌, inl, inr}
-use mathlib.Core.Bool.{Bool, true, false, ◌||◌, true≢false}
+use mathlib.Core.Bool.{true, false, true≢false}
 use lib.Dec.{ltb}
-use borrow.Author.Tests.{ltb-true, ltb-false, lt-ltb, le-ltb}
+use borrow.Author.Tests.{ltb-true, ltb-false, le-ltb}
 use Rattle.record.proofs.Cases.{by_case}
 use Rattle.record_log.specs.Log.{min_length, max_length, impossible}
-
--- THE TEST
-
--- below the least
-pub too_short : (n : ℕ) → n < 7 → true ≡ impossible n
-too_short n h = sym (ap (λ (b : Bool). b || ltb 13833 n) (lt-ltb n 7 h))
-
--- else only one above the largest is none
-pub not_short : (n : ℕ) → 7 ≤ n → ltb 13833 n ≡ impossible n
-not_short n h = sym (ap (λ (b : Bool). b || ltb 13833 n) (le-ltb n 7 h))
-
--- WHAT IT TELLS
 
 -- a length that no record has
 pub impossible_tells : (n : ℕ) → impossible n ≡ true → (n < min_length) ⊎ (max_length < n)

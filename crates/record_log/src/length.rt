@@ -8,8 +8,5 @@ use record::limits::{MAX_LENGTH, MIN_LENGTH};
 pub fn is_impossible(length: usize) -> bool
     ensures { result ≡ impossible length }
 {
-    if length < MIN_LENGTH {
-        return true;
-    }
-    MAX_LENGTH < length
+    !(MIN_LENGTH..=MAX_LENGTH).contains(&length)
 }

@@ -17,10 +17,9 @@ pub fn cut(log: &[u8], place: usize) -> Cut
     if place == log.len() {
         return Cut::End;
     }
-    if log.len() < place {
+    let Some(left) = log.len().checked_sub(place) else {
         return Cut::Torn;
-    }
-    let left = log.len() - place;
+    };
     if left < 2 {
         return Cut::Torn;
     }
@@ -38,9 +37,8 @@ pub fn cut(log: &[u8], place: usize) -> Cut
 pub fn part(log: &[u8], place: usize) -> &[u8]
     ensures { HandedOut log.entry place result }
 {
-    let found = cut(log, place);
-    let Cut::Record(next) = found else {
-        return &log[0..0];
+    let Cut::Record(next) = cut(log, place) else {
+        return &log[..0];
     };
     &log[place..next]
 }

@@ -1,20 +1,25 @@
 -- The record that was read into lists, and what `judge` says of it.
 -- Assumes nothing.
 use Prim.Native.Nat.{ℕ, ◌≤◌}
+use Rattle.std.specs.Prelude.{Result, Ok, Err}
 use mathlib.Core.Path.{◌≡◌, refl, sym, ap, ◌∙◌}
 use mathlib.Core.Option.{Option, none, some}
 use mathlib.Core.List.{List, map}
 use native.Mathlib.Omega.{arith}
-use lib.ListN.{length, take, drop, length-map, length-append}
+use lib.ListN.{length, get_or, take, drop, length-map, length-append}
 use lib.Seq.{take_at}
+use mir.Syntax.{w8}
+use mir.Val.{Fits}
 use Rattle.words.specs.Word.{Bytes}
 use Rattle.record.specs.declared.point.Scan.{Scan}
 use Rattle.record.specs.declared.reader.Reading.{Reading}
-use Rattle.record.specs.Answer.{committed, malformed}
+use Rattle.record.specs.declared.answer.Answer.{Answer}
+use Rattle.record.specs.Answer.{malformed}
 use Rattle.record.specs.Record.{Rec, Valid, key_of}
 use Rattle.record.specs.Parse.{parse}
-use Rattle.record.specs.Reader.{Lists, ReadOutcome, read_outcome, front, RoomFor, filled, read_of, low_of, high_of}
+use Rattle.record.specs.Reader.{Lists, ReadOutcome, read_outcome, front, RoomFor, filled, reading_of, read_of, low_of, high_of}
 use Rattle.record.proofs.RoundTrip.{bytes_of_parse}
+use Rattle.record.proofs.Results.{ok_is_no_err, ok_same}
 use Rattle.rules.specs.State.{State}
 use Rattle.rules.specs.Footprint.{reach}
 use Rattle.rules.specs.Verdict.{Verdict, verdict_answer, refusal_or}
@@ -24,6 +29,10 @@ use Rattle.conflict_search.specs.Sorted.{Sorted, footprint}
 use Rattle.conflict_search.proofs.Reach.{sorted_valid, footprint_reach}
 use Rattle.judge.specs.declared.judged.Judged.{Judged}
 use Rattle.judge.specs.Judged.{judged_of}
+
+-- what was lent is bytes
+pub lent_bytes : (bs : List ℕ) → ((i : ℕ) → Fits w8 (get_or bs i 0)) → Bytes bs
+lent_bytes bs f = record { byte = λ i. omega (arith, f i) }
 
 -- WHAT WAS READ
 
@@ -48,38 +57,35 @@ pub record Taken (bs : List ℕ) (a : Reading) (l : Lists) : Type 0 where
   pub lows_inside : a.scans ≤ length l.lows
   pub highs_inside : a.scans ≤ length l.highs
 
-module _ (bs : List ℕ) (bytes : Bytes bs) (before after : Lists) (room : RoomFor bs before) (a : Reading) (e : read_outcome a after ≡ read_of (parse bs) before) where
-  -- what the reading of a record says
-  abbrev reading_of : Rec → Reading
-  reading_of r = record { answer = committed; snapshot = r.snapshot; points = length r.points; scans = length r.scans }
-
+module _ (bs : List ℕ) (bytes : Bytes bs) (before after : Lists) (room : RoomFor bs before) (q : Result Reading Answer) (e : read_outcome q after ≡ read_of (parse bs) before) where
   -- a record was read
-  was_read : (r : Rec) → parse bs ≡ some r → read_outcome a after ≡ read_outcome (reading_of r) (filled r before)
+  was_read : (r : Rec) → parse bs ≡ some r → read_outcome q after ≡ read_outcome (Ok (reading_of r)) (filled r before)
   unfolding read_of
   was_read r p = e ∙ simp (p, room r p)
 
-  -- an answer other than 0 means that the bytes are no record
-  pub none_taken : (a.answer.number ≡ 0 → ⊥) → parse bs ≡ none
-  none_taken n = go (parse bs) refl
+  -- a refusal means that the bytes are no record
+  pub none_taken : (a : Answer) → q ≡ Err a → parse bs ≡ none
+  none_taken a n = go (parse bs) refl
     where
       go : (o : Option Rec) → parse bs ≡ o → o ≡ none
       go none p = refl
-      go (some r) p = absurd (n (ap (λ (o : ReadOutcome). o.reading.answer.number) (was_read r p)))
+      go (some r) p = ok_is_no_err (sym (ap (λ (o : ReadOutcome). o.reading) (was_read r p)) ∙ n)
 
-  -- answer 0 means that they are one
-  pub taken : a.answer.number ≡ 0 → Taken bs a after
+  -- a reading means that they are one
+  pub taken : (a : Reading) → q ≡ Ok a → Taken bs a after
   unfolding read_of
-  taken z = go (parse bs) refl
+  taken a z = go (parse bs) refl
     where
       go : (o : Option Rec) → parse bs ≡ o → Taken bs a after
       go none p =
-          let q : read_outcome a after ≡ read_of none before = e ∙ ap (λ (o : Option Rec). read_of o before) p in
-          absurd (omega (arith, ap (λ (o : ReadOutcome). o.reading.answer.number) q))
+          let refused : read_outcome q after ≡ read_of none before = e ∙ ap (λ (o : Option Rec). read_of o before) p in
+          ok_is_no_err (sym z ∙ ap (λ (o : ReadOutcome). o.reading) refused)
       go (some r) p =
-          let f : read_outcome a after ≡ read_outcome (reading_of r) (filled r before) = was_read r p in
-          let points : a.points ≡ length (map key_of r.points) = ap (λ (o : ReadOutcome). o.reading.points) f ∙ sym (length-map r.points key_of) in
-          let lows : a.scans ≡ length (map low_of r.scans) = ap (λ (o : ReadOutcome). o.reading.scans) f ∙ sym (length-map r.scans low_of) in
-          let highs : a.scans ≡ length (map high_of r.scans) = ap (λ (o : ReadOutcome). o.reading.scans) f ∙ sym (length-map r.scans high_of) in
+          let f : read_outcome q after ≡ read_outcome (Ok (reading_of r)) (filled r before) = was_read r p in
+          let same : a ≡ reading_of r = ok_same (sym z ∙ ap (λ (o : ReadOutcome). o.reading) f) in
+          let points : a.points ≡ length (map key_of r.points) = ap (λ (x : Reading). x.points) same ∙ sym (length-map r.points key_of) in
+          let lows : a.scans ≡ length (map low_of r.scans) = ap (λ (x : Reading). x.scans) same ∙ sym (length-map r.scans low_of) in
+          let highs : a.scans ≡ length (map high_of r.scans) = ap (λ (x : Reading). x.scans) same ∙ sym (length-map r.scans high_of) in
           let ek : after.keys ≡ front (map key_of r.points) before.keys = ap (λ (o : ReadOutcome). o.left.keys) f in
           let el : after.lows ≡ front (map low_of r.scans) before.lows = ap (λ (o : ReadOutcome). o.left.lows) f in
           let eh : after.highs ≡ front (map high_of r.scans) before.highs = ap (λ (o : ReadOutcome). o.left.highs) f in
@@ -87,7 +93,7 @@ module _ (bs : List ℕ) (bytes : Bytes bs) (before after : Lists) (room : RoomF
             r = r;
             is = p;
             valid = (bytes_of_parse bs r bytes p).0;
-            snapshot = ap (λ (o : ReadOutcome). o.reading.snapshot) f;
+            snapshot = ap (λ (x : Reading). x.snapshot) same;
             keys = rw ek (front_taken (map key_of r.points) before.keys a.points points);
             lows = rw el (front_taken (map low_of r.scans) before.lows a.scans lows);
             highs = rw eh (front_taken (map high_of r.scans) before.highs a.scans highs);

@@ -10,7 +10,7 @@ use Rattle.record.specs.Reader.{front}
 use Rattle.std.specs.Prelude.{if◌then◌else◌}
 use Rattle.rules.specs.State.{State}
 use Rattle.rules.specs.Verdict.{verdict_answer}
-use Rattle.rules.specs.Refresh.{Refreshed, done, refused, refresh}
+use Rattle.rules.specs.Refresh.{Refreshed, done, refused, refreshed_answer, refresh}
 use Rattle.pool.specs.Image.{Arrangement, Image, Fit, state_of}
 
 -- R38: the answer, and the output afterwards
@@ -32,6 +32,10 @@ left_by (done r) output =
 -- R38: at a state, for the record that the bytes are, none if they are malformed, and an output
 abbrev pub refreshed_of : State → Option Rec → List ℕ → RefreshOutcome
 refreshed_of S m output = left_by (refresh S m) output
+
+-- R38: what refresh asks of a record in a pool m, before it looks at the output: 4, 5, 2 or 1, the first that applies, or 0
+abbrev pub AskedIs : List ℕ → List ℕ → Answer → Type 0
+AskedIs m original a = (A : Arrangement) → Image m A → a ≡ refreshed_answer (refresh (state_of A) (parse original))
 
 -- R38: what `refresh` promises of a pool m, an original and an output as it was: the answer a, and the output afterwards
 pub record RefreshIs (m original before : List ℕ) (a : Answer) (after : List ℕ) : Type 0 where

@@ -2,7 +2,6 @@
 
 // REFRESH: the same record with the pool's position as its snapshot, for a record that would not be refused here. The pool is only read.
 mod asked;
-mod front;
 
 ghost use Rattle.std.specs.Prelude.{◌≡◌};
 ghost use Rattle.record.specs.Parse.{parse};
@@ -11,7 +10,6 @@ ghost use Rattle.refresh.specs.Refreshed.{refresh_outcome, refreshed_of, Refresh
 
 use asked::asked;
 use fit::whole::fit;
-use front::copy_front;
 use nodes::read_header;
 use record::Answer;
 use words::put4;
@@ -22,13 +20,13 @@ fn refresh_fit(pool: &[u8], original: &[u8], output: &mut [u8]) -> Answer
     ensures { (A : Arrangement) → Image pool.now A → refresh_outcome result output.new ≡ refreshed_of (state_of A) (parse original.now) output.old }
 {
     let answer = asked(pool, original);
-    if answer.number != Answer::COMMITTED.number {
+    if answer != Answer::COMMITTED {
         return answer;
     }
     if output.len() < original.len() {
         return Answer::OUTPUT_SHORT;
     }
-    copy_front(original, output);
+    output[..original.len()].copy_from_slice(original);
     put4(output, 3, read_header(pool).position);
     Answer::COMMITTED
 }

@@ -16,7 +16,8 @@ const MOST_KEYS: u32 = 65536;
 // The bytes of a pool for that N.
 const POOL: usize = 4194368;
 
-// Melds the input into a pool made of the bytes lent, which are enough for the largest N, and answers how the run ends.
+// Melds the input into a pool made of the bytes lent, which are enough for the largest N, and answers how the run ends. What the programs share is
+// `meld_input`; what this one promises, with its own N, is said here.
 fn meld_into<R: Read, P: Print>(input: &mut R, out: &mut Output<P>, pool: &mut [u8]) -> Ending
     requires { size_for largest_n ≤ length pool.old }
     ensures { ProgramRuns pool.old pool.new result }

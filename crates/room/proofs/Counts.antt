@@ -102,7 +102,7 @@ unfolding found_in
 holds_kept S k = go (find k S.kept)
   where
     go : (o : Option Entry) → live_at o ≡ true → one_if_absent (found_of o) ≡ 0
-    go none h = let z : ◌≡◌ {A = ℕ} 0 1 = cc in absurd (omega arith)
+    go none h = cc
     go (some e) h = not_absent e.position e.payload
 
 -- and still do when something is stored
@@ -164,7 +164,7 @@ found_stays limit k (link {e = x} {es = es} l r) = go (eqb x.key k) (old limit x
 
     gone : (w : ℕ) (o : Option ℕ) → (not (is_live o) && leb w limit) ≡ true → 1 ≡ one_if_absent (found_at w o) + one_if_revived limit (found_at w o)
     gone w none h = rw h (omega arith)
-    gone w (some y) h = let z : ◌≡◌ {A = ℕ} 0 1 = cc in absurd (omega arith)
+    gone w (some y) h = cc
 
     go : (a b : Bool) → eqb x.key k ≡ a → old limit x ≡ b
         → one_if_absent (found_of (find k (keep (stays limit) es))) ≡ one_if_absent (found_of (find k es)) + one_if_revived limit (found_of (find k es))
@@ -182,11 +182,11 @@ unfolding found_in
 holds_stays limit S r k l = found_stays limit k r ∙ go (find k S.kept) l
   where
     lives : (w : ℕ) (o : Option ℕ) → is_live o ≡ true → one_if_absent (found_at w o) + one_if_revived limit (found_at w o) ≡ 0
-    lives w none h = let z : ◌≡◌ {A = ℕ} 0 1 = cc in absurd (omega arith)
+    lives w none h = cc
     lives w (some x) h = refl
 
     go : (o : Option Entry) → live_at o ≡ true → one_if_absent (found_of o) + one_if_revived limit (found_of o) ≡ 0
-    go none h = let z : ◌≡◌ {A = ℕ} 0 1 = cc in absurd (omega arith)
+    go none h = cc
     go (some e) h = lives e.position e.payload h
 
 tally_stays : (limit low : ℕ) (ps : List Point) {hi lo : ℕ} {es : List Entry} → Rising hi lo es

@@ -1,7 +1,7 @@
 -- What `room_for` has counted decides row 3: one law for each return, and what its sums ask.
 -- Assumes nothing.
 use Prim.Native.Nat.{ℕ, ◌+◌, ◌-◌, ◌^◌, ◌≤◌, ◌<◌}
-use mathlib.Core.Path.{◌≡◌, refl, sym, ap, ◌∙◌}
+use mathlib.Core.Path.{◌≡◌, refl, ap, ◌∙◌}
 use mathlib.Core.Bool.{true}
 use mathlib.Core.List.{List, [], ◌∷◌, map, Memᴰ as Mem}
 use native.Mathlib.Omega.{arith}
@@ -46,14 +46,8 @@ tally_small f h [] ks es = omega arith
 tally_small f h (kind ∷ kinds) [] es = omega arith
 tally_small f h (kind ∷ kinds) (k ∷ ks) es = omega (arith, small_adds f h kind k es, tally_small f h kinds ks es)
 
-pub lists_same : (m kinds ks : List ℕ) → Writable m kinds ks → length kinds ≡ length ks
-lists_same m kinds ks w = rw (w.kinds_are, w.keys_are) (length-map w.r.points kind_of ∙ sym (length-map w.r.points key_of))
-
 pub lists_few : (m kinds ks : List ℕ) → Writable m kinds ks → length ks ≤ 1024
 lists_few m kinds ks w = rw w.keys_are (omega (arith, length-map w.r.points key_of, w.valid.few_points))
-
-pub position_left : (m kinds ks : List ℕ) (h : Header) → Writable m kinds ks → h ≡ header_at m → h.position ≤ 4294967294
-position_left m kinds ks h w e = rw e (omega (arith, w.left))
 
 module _ (m kinds ks : List ℕ) (fit : Fit m) (w : Writable m kinds ks) (h : Header) (eh : h ≡ header_at m) (limit : ℕ) (el : limit ≡ old_limit h.position h.zone)
     (t : Tally) (et : (A : Arrangement) → Image m A → TallyIs kinds ks limit (state_of A).kept t) where
@@ -121,10 +115,6 @@ module _ (m kinds ks : List ℕ) (fit : Fit m) (w : Writable m kinds ks) (h : He
       rw (le-ltb A.N (count (state_of A) r.points) y, drops_is A i r v ek ee, le-ltb A.N (length (whole (state_of A) r.points)) x)
 
   module _ (more : h.limit < h.kept + t.absent) where
-    -- as many old tombstones must go: one at least
-    pub some_needed : 1 ≤ h.kept + t.absent + t.revived - h.limit
-    some_needed = omega arith
-
     module _ (o : ℕ) (eo : (A : Arrangement) → Image m A → UpTo (h.kept + t.absent + t.revived - h.limit) (length (keep (old limit) (state_of A).kept)) o) where
       passes : (A : Arrangement) → Image m A → (r : Rec) → Valid r → kinds ≡ map kind_of r.points → ks ≡ map key_of r.points → drops (state_of A) r.points ≡ true
       passes A i r v ek ee = drops_is A i r v ek ee ∙ lt-ltb A.N (length (whole (state_of A) r.points)) (omega (arith, whole_counted A i r v ek ee, (words A i).limit_is))

@@ -3,12 +3,7 @@
 -- Assumes nothing.
 use Prim.Native.Nat.{ℕ}
 use mathlib.Core.Path.{◌≡◌, refl, sym, ap, ◌∙◌}
-use mathlib.Core.Bool.{Bool, true, false}
-use mathlib.Core.Option.{Option, none, some}
 use mathlib.Core.List.{List}
-use native.Mathlib.Omega.{arith}
-use Rattle.record.specs.declared.answer.Answer.{Answer}
-use Rattle.record.specs.Answer.{no_room}
 use Rattle.pool.specs.Image.{Fit}
 use Rattle.room.specs.declared.room.Room.{Room}
 use Rattle.room.specs.declared.room.Room.TheVariants.{Enough, AfterDrop, TooLittle}
@@ -18,14 +13,14 @@ use Rattle.room.specs.Room.{RoomSaid, said_by, Writable, RoomIs}
 -- answers that say the same are the same
 pub same_said : (a b : Room) → said_by a ≡ said_by b → a ≡ b
 same_said Enough Enough e = refl
-same_said Enough AfterDrop e = let d : ◌≡◌ {A = Bool} false true = ap (λ (x : RoomSaid). x.drops_first) e in let z : ◌≡◌ {A = ℕ} 0 1 = cc in absurd (omega arith)
-same_said Enough (TooLittle n) e = let d : ◌≡◌ {A = Option Answer} none (some no_room) = ap (λ (x : RoomSaid). x.number) e in let z : ◌≡◌ {A = ℕ} 0 1 = cc in absurd (omega arith)
-same_said AfterDrop Enough e = let d : ◌≡◌ {A = Bool} true false = ap (λ (x : RoomSaid). x.drops_first) e in let z : ◌≡◌ {A = ℕ} 0 1 = cc in absurd (omega arith)
+same_said Enough AfterDrop e = cc (ap (λ (x : RoomSaid). x.drops_first) e)
+same_said Enough (TooLittle n) e = cc (ap (λ (x : RoomSaid). x.keys) e)
+same_said AfterDrop Enough e = cc (ap (λ (x : RoomSaid). x.drops_first) e)
 same_said AfterDrop AfterDrop e = refl
-same_said AfterDrop (TooLittle n) e = let d : ◌≡◌ {A = Option Answer} none (some no_room) = ap (λ (x : RoomSaid). x.number) e in let z : ◌≡◌ {A = ℕ} 0 1 = cc in absurd (omega arith)
-same_said (TooLittle n) Enough e = let d : ◌≡◌ {A = Option Answer} (some no_room) none = ap (λ (x : RoomSaid). x.number) e in let z : ◌≡◌ {A = ℕ} 0 1 = cc in absurd (omega arith)
-same_said (TooLittle n) AfterDrop e = let d : ◌≡◌ {A = Option Answer} (some no_room) none = ap (λ (x : RoomSaid). x.number) e in let z : ◌≡◌ {A = ℕ} 0 1 = cc in absurd (omega arith)
-same_said (TooLittle n) (TooLittle k) e = let d : ◌≡◌ {A = Option ℕ} (some n) (some k) = ap (λ (x : RoomSaid). x.keys) e in let z : n ≡ k = cc in ap TooLittle z
+same_said AfterDrop (TooLittle n) e = cc (ap (λ (x : RoomSaid). x.keys) e)
+same_said (TooLittle n) Enough e = cc (ap (λ (x : RoomSaid). x.keys) e)
+same_said (TooLittle n) AfterDrop e = cc (ap (λ (x : RoomSaid). x.keys) e)
+same_said (TooLittle n) (TooLittle k) e = cc (ap (λ (x : RoomSaid). x.keys) e)
 
 -- no second answer of `room_for`, for a fit pool and the lists of a record
 pub only_room : (m kinds keys : List ℕ) (a b : Room) → Fit m → Writable m kinds keys → RoomIs m kinds keys a → RoomIs m kinds keys b → a ≡ b

@@ -55,8 +55,8 @@ tally_of f (kind ∷ kinds) (k ∷ ks) es = adds f kind k es + tally_of f kinds 
 -- one point's part
 pub record SettledAs (kind k limit : ℕ) (es : List Entry) (r : Settled) : Type 0 where
   pub kind_is : r.kind ≡ settled_kind kind k es
-  pub absent_is : r.absent ≡ adds one_if_absent kind k es
-  pub revived_is : r.revived ≡ adds (one_if_revived limit) kind k es
+  pub absent_is : r.adds.absent ≡ adds one_if_absent kind k es
+  pub revived_is : r.adds.revived ≡ adds (one_if_revived limit) kind k es
 
 -- all points
 pub record TallyIs (kinds ks : List ℕ) (limit : ℕ) (es : List Entry) (r : Tally) : Type 0 where

@@ -23,8 +23,7 @@ pub fn old_limit(position: u32, zone: u32) -> u32
     requires { position ≤ 4294967294 }
     ensures { result ≡ old_limit position zone }
 {
-    let v = position + 1;
-    if zone <= v { v - zone } else { 0 }
+    (position + 1).saturating_sub(zone)
 }
 
 // What there is room for in a fit pool. Old tombstones are counted only if the kept and the written keys pass N, and only up to as many as must go:

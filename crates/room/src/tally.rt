@@ -4,6 +4,7 @@ ghost use Rattle.pool.specs.Image.{Arrangement, Image, Fit, state_of};
 ghost use Rattle.room.specs.Tally.{one_if_absent, one_if_revived, delete_as, SettledAs, TallyIs, Settles};
 
 use find::{Found, find};
+use record::point::{DELETE, PUT, READ};
 
 #[derive(Clone, Copy)]
 pub struct Tally {
@@ -13,14 +14,19 @@ pub struct Tally {
     pub revived: u32,
 }
 
+impl Tally {
+    const NONE: Tally = Tally {
+        absent: 0,
+        revived: 0,
+    };
+}
+
 // A point, once its key was looked for.
 #[derive(Clone, Copy)]
 struct Settled {
     // Its kind; a delete that writes nothing is a read from then on.
     kind: u8,
-    // What it adds.
-    absent: u32,
-    revived: u32,
+    adds: Tally,
 }
 
 // What one put adds.
@@ -30,28 +36,13 @@ fn tally_one(found: Found, limit: u32) -> Tally
     match found {
         Found::Absent => Tally {
             absent: 1,
-            revived: 0,
+            ..Tally::NONE
         },
-        Found::Live {
-            payload: _,
-            position: _,
-        } => Tally {
-            absent: 0,
-            revived: 0,
+        Found::Tombstone { position } if position <= limit => Tally {
+            revived: 1,
+            ..Tally::NONE
         },
-        Found::Tombstone { position } => {
-            if position <= limit {
-                Tally {
-                    absent: 0,
-                    revived: 1,
-                }
-            } else {
-                Tally {
-                    absent: 0,
-                    revived: 0,
-                }
-            }
-        }
+        Found::Live { .. } | Found::Tombstone { .. } => Tally::NONE,
     }
 }
 
@@ -60,12 +51,8 @@ fn delete_as(found: Found) -> u8
     ensures { result ≡ delete_as found }
 {
     match found {
-        Found::Live {
-            payload: _,
-            position: _,
-        } => 3,
-        Found::Absent => 1,
-        Found::Tombstone { position: _ } => 1,
+        Found::Live { .. } => DELETE,
+        Found::Absent | Found::Tombstone { .. } => READ,
     }
 }
 
@@ -74,25 +61,19 @@ fn settle_point(pool: &[u8], kind: u8, key: u32, limit: u32) -> Settled
     requires { Fit pool.now }
     ensures { (A : Arrangement) → Image pool.now A → SettledAs kind key limit (state_of A).kept result }
 {
-    if kind == 2 {
-        let one = tally_one(find(pool, key), limit);
-        return Settled {
+    match kind {
+        PUT => Settled {
             kind,
-            absent: one.absent,
-            revived: one.revived,
-        };
-    }
-    if kind == 3 {
-        return Settled {
+            adds: tally_one(find(pool, key), limit),
+        },
+        DELETE => Settled {
             kind: delete_as(find(pool, key)),
-            absent: 0,
-            revived: 0,
-        };
-    }
-    Settled {
-        kind,
-        absent: 0,
-        revived: 0,
+            adds: Tally::NONE,
+        },
+        _ => Settled {
+            kind,
+            adds: Tally::NONE,
+        },
     }
 }
 
@@ -103,15 +84,13 @@ pub fn settle_points(pool: &[u8], kinds: &mut [u8], keys: &[u32], limit: u32) ->
     ensures tally_is { (A : Arrangement) → Image pool.now A → TallyIs kinds.old keys.now limit (state_of A).kept result }
     ensures settles { Settles pool.now kinds.old keys.now kinds.new }
 {
-    let mut absent: u32 = 0;
-    let mut revived: u32 = 0;
-    let mut i: usize = 0;
-    while i < keys.len() {
-        let one = settle_point(pool, kinds[i], keys[i], limit);
-        kinds[i] = one.kind;
-        absent += one.absent;
-        revived += one.revived;
-        i += 1;
+    let mut all = Tally::NONE;
+    // The keys by index: a zip over `iter_mut` does not tell a proof which kind was changed.
+    for (i, kind) in kinds.iter_mut().enumerate() {
+        let settled = settle_point(pool, *kind, keys[i], limit);
+        *kind = settled.kind;
+        all.absent += settled.adds.absent;
+        all.revived += settled.adds.revived;
     }
-    Tally { absent, revived }
+    all
 }

@@ -3,30 +3,13 @@ use crate::flaws::say_flaw;
 use asking::{Named, find_flaw, named_by};
 use lines::Output;
 use meld::Status;
-use reason::{Explained, Reason, Touch};
-use record::Answer;
+use reason::{Explained, Reason};
+use record::{Answer, Point, Scan};
 use std::io::Print;
 use words::word4;
 
-// An answer's name (R3).
-pub fn name(answer: Answer) -> &'static str {
-    match answer.number {
-        0 => "committed",
-        1 => "conflict",
-        2 => "too old",
-        3 => "no room",
-        4 => "malformed",
-        5 => "ahead",
-        6 => "positions used up",
-        7 => "unfit pool",
-        8 => "output short",
-        9 => "bad limits",
-        10 => "torn log",
-        _ => "impossible length",
-    }
-}
-
-// The snapshot of a record, which stands behind its first three bytes (R4); 0 for bytes that have none there.
+// The snapshot of a record, which stands behind its first three bytes (R4); 0 for bytes that have none there, and then no sentence says it.
+// As an Option it would have to be taken apart in each of the four sentences that do.
 fn snapshot_in(bytes: &[u8]) -> u32 {
     if bytes.len() < 7 {
         return 0;
@@ -34,25 +17,27 @@ fn snapshot_in(bytes: &[u8]) -> u32 {
     word4(bytes, 3)
 }
 
-// What a point of this kind does.
-fn deed(kind: u8) -> &'static str {
-    match kind {
-        1 => "read",
-        2 => "put",
-        _ => "delete",
+// What a point does.
+fn deed(point: Point) -> &'static str {
+    match point {
+        Point::Read(_) => "read",
+        Point::Put(_, _) => "put",
+        Point::Delete(_) => "delete",
     }
 }
 
 // Says what of a record touches a key.
-fn say_touch<P: Print>(out: &mut Output<P>, touch: Touch, what: Named) {
-    let low = what.low;
-    let high = what.high;
-    match touch {
-        Touch::Point(i) => {
-            let deed = deed(what.kind);
-            out.say(format_args!("point {i} ({deed} {low}) names it\n"));
+fn say_touch<P: Print>(out: &mut Output<P>, named: Named) {
+    match named {
+        Named::Point { number, point } => {
+            let deed = deed(point);
+            let key = point.key();
+            out.say(format_args!("point {number} ({deed} {key}) names it\n"));
         }
-        Touch::Scan(i) => out.say(format_args!("scan {i} ({low} to {high}) covers it\n")),
+        Named::Scan {
+            number,
+            scan: Scan { low, high },
+        } => out.say(format_args!("scan {number} ({low} to {high}) covers it\n")),
     }
 }
 
@@ -65,12 +50,16 @@ fn say_plain<P: Print>(
     bytes: &[u8],
 ) {
     let position = status.position;
-    match answer.number {
-        0 => out.say(format_args!(
+    match answer {
+        Answer::COMMITTED => out.say(format_args!(
             "nothing that it names or scans was written after its snapshot {snapshot}, and there is room\n"
         )),
-        4 => say_flaw(out, find_flaw(bytes), bytes.len()),
-        5 => out.say(format_args!(
+        Answer::MALFORMED => {
+            if let Some(flaw) = find_flaw(bytes) {
+                say_flaw(out, flaw, bytes.len());
+            }
+        }
+        Answer::AHEAD => out.say(format_args!(
             "its snapshot {snapshot} is past position {position}, the last before it\n"
         )),
         _ => out.say("position 4294967295 is taken, and there is none behind it\n"),
@@ -92,7 +81,9 @@ pub fn say_why<P: Print>(out: &mut Output<P>, status: Status, explained: Explain
             out.say(format_args!(
                 "key {key} was written by record {position}, after this record's snapshot {snapshot}\n"
             ));
-            say_touch(out, touch, named_by(bytes, touch));
+            if let Some(named) = named_by(bytes, touch) {
+                say_touch(out, named);
+            }
         }
         Reason::TooOld { lag } => out.say(format_args!(
             "its snapshot {snapshot} is {lag} positions back, and at most {zone} (Z) may be\n"

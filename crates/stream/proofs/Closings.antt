@@ -9,13 +9,14 @@ use native.Mathlib.Omega.{arith}
 use lib.ListN.{length, take}
 use Rattle.record.specs.declared.answer.Answer.{Answer}
 use Rattle.record.specs.Answer.{bad_limits}
+use Rattle.std.specs.Prelude.{Err}
+use Rattle.record.proofs.Results.{ok_is_no_err, err_same}
 use Rattle.lines.specs.Opening.{size_for, InRange}
 use Rattle.lines.proofs.Limits.{in_range_0, in_range_or_9}
 use Rattle.stream.specs.declared.closing.Ending.{Ending}
 use Rattle.stream.specs.declared.closing.Ending.TheVariants.{Limits, Log, Unread}
 use Rattle.stream.specs.declared.input.Filled.{Filled}
-use Rattle.stream.specs.declared.turns.Progress.{Progress}
-use Rattle.stream.specs.Turns.{Closes, stops, unread, over}
+use Rattle.stream.specs.Turns.{Progress, Closes, stops, unread, over}
 use Rattle.stream.specs.Runs.{Head, Runs, limits_unread, refused, melded}
 
 -- 1 for an answer to the limits, else 0
@@ -51,20 +52,19 @@ pub limits_say_9 : {most : ℕ} {m m' : List ℕ} {last : Ending} (a : Answer) �
 limits_say_9 a bounded enough (limits_unread h f) e =
     let z : ◌≡◌ {A = ℕ} 0 1 = ap limits_told e in
     absurd (omega (arith, z))
-limits_say_9 a bounded enough (melded h f o z c s) e =
+limits_say_9 a bounded enough (melded h f o c s) e =
     let z : ◌≡◌ {A = ℕ} 0 1 = sym (log_ending s.closes) ∙ ap limits_told e in
     absurd (omega (arith, z))
-limits_say_9 {most} {m} a bounded enough (refused {head} {m'} {r} {asked} h f o n) e =
-    let out : InRange most (take r.held head) → ⊥ = λ k. n (ap (λ (x : Answer). x.number) (in_range_0 most m _ asked m' o bounded enough k)) in
-    elim (in_range_or_9 most m (take r.held head) asked m' o bounded enough) [
-      | inl k ↦ absurd (out k)
+limits_say_9 {most} {m} a bounded enough (refused {head} {m'} {r} {answer} h f o) e =
+    elim (in_range_or_9 most m (take r.held head) (Err answer) m' o bounded enough) [
+      | inl k ↦ ok_is_no_err (sym (in_range_0 most m (take r.held head) (Err answer) m' o bounded enough k))
       | inr nine ↦
           record {
             head = head;
             read = r;
             is_head = h;
             not_failed = f;
-            out = out;
-            is_nine = sym (ap answer_in e) ∙ nine;
+            out = λ k. ok_is_no_err (sym (in_range_0 most m (take r.held head) (Err answer) m' o bounded enough k));
+            is_nine = sym (ap answer_in e) ∙ err_same nine;
           }
     ]

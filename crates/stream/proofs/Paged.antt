@@ -5,7 +5,6 @@ use mathlib.Core.Path.{◌≡◌, refl, sym, ap, subst, ◌∙◌}
 use mathlib.Core.Bool.{Bool, true, false, true≢false}
 use mathlib.Core.List.{List, [], ◌∷◌, ◌++◌, append_assoc, append-nil}
 use lib.ListN.{length, take}
-use Rattle.std.specs.Prelude.{if◌then◌else◌}
 use Rattle.record.specs.Answer.{committed}
 use Rattle.record_log.specs.declared.found.Cut.{Cut}
 use Rattle.record_log.specs.declared.found.Cut.TheVariants.{End, Impossible}
@@ -18,12 +17,11 @@ use Rattle.pages.proofs.Fronts.{Such}
 use Rattle.demands.specs.Runs.{Whole}
 use Rattle.demands.specs.Feeding.{verdicts_in, PartsFed}
 use Rattle.demands.proofs.Parts.{parts_whole}
-use Rattle.lines.specs.Parts.{PartCalls, PartFed}
+use Rattle.lines.specs.Parts.{PartCalls}
 use Rattle.lines.proofs.Parted.{part_ready, part_then, part_breaks, finished, such_none, new_fit}
 use Rattle.stream.specs.declared.closing.Ending.{Ending}
 use Rattle.stream.specs.declared.closing.Ending.TheVariants.{Limits, Log, Unread}
-use Rattle.stream.specs.declared.turns.Progress.{Progress}
-use Rattle.stream.specs.Turns.{TurnIs, Turns, none_yet, one_more, Closes, stops, unread, over, Streamed}
+use Rattle.stream.specs.Turns.{Progress, TurnIs, Turns, none_yet, one_more, Closes, stops, unread, over, Streamed}
 
 -- the log goes on where another page may follow
 more_goes_on : (held : ℕ) (stopped : Bool) → Rattle.stream.specs.Turns.more_by held stopped ≡ true → stopped ≡ false

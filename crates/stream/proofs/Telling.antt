@@ -1,12 +1,11 @@
 -- What reads one behind the other leave.
 -- Assumes nothing.
-use Prim.Native.Nat.{ℕ, ◌+◌, ◌-◌, ◌≤◌}
+use Prim.Native.Nat.{ℕ, ◌≤◌}
 use mathlib.Core.Path.{◌≡◌, refl, sym, ap, ◌∙◌}
-use mathlib.Core.Bool.{Bool, false}
 use mathlib.Core.List.{List}
 use native.Mathlib.Omega.{arith}
-use lib.ListN.{length, take, drop, length-drop}
-use lib.Seq.{length-take-le, take-take}
+use lib.ListN.{length, take}
+use lib.Seq.{take-take}
 use Rattle.stream.specs.declared.input.Filled.{Filled}
 use Rattle.stream.specs.Buffer.{Refilled, Reads, none_yet, one_more, FilledUp, full, stopped}
 

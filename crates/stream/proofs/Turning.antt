@@ -1,14 +1,7 @@
--- The turns of the program, one after the other: what the loop that makes them knows at its test, and how it closes.
+-- The turns of the program, one after the other: what the loop that makes them knows when a turn begins, and how it closes.
 -- Assumes nothing.
-use Prim.Native.Nat.{ℕ, ◌+◌, ◌-◌, ◌≤◌, ◌<◌}
-use mathlib.Core.Path.{◌≡◌, refl, sym, ap, ◌∙◌}
-use mathlib.Core.Bool.{Bool, true, false, not, true≢false}
-use mathlib.Core.Logic.{◌⊎◌, inl, inr}
-use mathlib.Core.List.{List, [], ◌∷◌, ◌++◌}
-use native.Mathlib.Omega.{arith}
-use lib.Dec.{eqb}
-use lib.ListN.{length, take, length-append}
-use Rattle.std.specs.Prelude.{if◌then◌else◌}
+use Rattle.std.proofs.Common.{◌≡◌, ℕ, ◌+◌, true, false, not, Result, Ok, Err, List, [], ◌∷◌, ◌++◌, length, take, sym, refl, ap, ◌∙◌, subst, true≢false, arith, length-append, eq-eqb, ne_eqb}
+use Rattle.std.specs.declared.io.Error.{Error}
 use Rattle.record_log.specs.declared.found.Cut.{Cut}
 use Rattle.record_log.specs.declared.found.Cut.TheVariants.{Impossible}
 use Rattle.pages.specs.declared.told.Fed.{Fed}
@@ -17,84 +10,112 @@ use Rattle.lines.specs.Parts.{PartFed, Finishes}
 use Rattle.stream.specs.declared.closing.Ending.{Ending}
 use Rattle.stream.specs.declared.closing.Ending.TheVariants.{Log, Unread}
 use Rattle.stream.specs.declared.input.Filled.{Filled}
-use Rattle.stream.specs.declared.turns.Progress.{Progress}
-use Rattle.stream.specs.Buffer.{Refilled}
-use Rattle.stream.specs.Turns.{more_by, progress_by, TurnIs, Turns, none_yet, one_more, Closes, stops, unread, over, Streamed}
+use Rattle.stream.specs.Buffer.{filled_by, Refilled}
+use Rattle.stream.specs.Turns.{Progress, more_by, progress_by, TurnIs, Turns, none_yet, one_more, Closes, stops, unread, over, Streamed}
 
--- where the log goes on, another page may follow one that is not empty
-pub goes_by_size : (held : ℕ) (stopped : Bool) → stopped ≡ false → not (eqb held 0) ≡ more_by held stopped
-goes_by_size held stopped e = sym (ap (λ (x : Bool). if x then false else not (eqb held 0)) e)
+-- a failed read brings nothing
+failed_empty : {page page' : List ℕ} {read : Filled} → Refilled 0 page page' read → read.failed ≡ true → read.held ≡ 0
+failed_empty {page} {read = read} f e = by_answer f.got f.told
+  where
+    by_answer : (got : Result ℕ Error) → read ≡ filled_by got 0 (length page) → read.held ≡ 0
+    by_answer (Ok n) is = absurd (true≢false (sym e ∙ ap (λ (x : Filled). x.failed) is))
+    by_answer (Err x) is = ap (λ (y : Filled). y.held) is
 
--- a page read and fed
-pub turn : (carried position : ℕ) (m carry page m' carry' page' : List ℕ) (read : Filled) (going : Going) (more : Bool) → Refilled 0 page page' read
-    → PartFed (take read.held page') position m carry carried m' carry' going → more ≡ more_by read.held going.stopped
-    → TurnIs carried position m carry page m' carry' page'
-    (record { carried = going.carried; position = going.position; more = more; failed = read.failed; stopped = going.stopped })
-turn carried position m carry page m' carry' page' read going more f p e =
-    record {
-      read = read;
-      going = going;
-      refilled = f;
-      fed = p;
-      progress_is =
-          ap (λ (x : Bool). record { carried = going.carried; position = going.position; more = x; failed = read.failed; stopped = going.stopped }) e;
-    }
+-- the log is over at the pool, the carry and what is carried then
+pub over_at : {m m₁ carry carry₁ : List ℕ} {carried carried₁ : ℕ} → m₁ ≡ m → carry₁ ≡ carry → carried₁ ≡ carried → {after carry₂ : List ℕ} {found : Cut}
+    → Finishes m₁ carry₁ carried₁ after carry₂ found → Finishes m carry carried after carry₂ found
+over_at {m} {carry = carry} {carry₁ = carry₁} {carried₁ = carried₁} e f g {after} {carry₂} {found} k =
+    subst (λ (x : ℕ). Finishes m carry x after carry₂ found) g
+    (subst (λ (x : List ℕ). Finishes m x carried₁ after carry₂ found) f (subst (λ (x : List ℕ). Finishes x carry₁ carried₁ after carry₂ found) e k))
 
--- some turns were made, and so many are left
-pub record Turned (m carry page : List ℕ) (carried position : ℕ) (more failed stopped : Bool) (left : ℕ) (m' carry' page' : List ℕ) : Type 0 where
+-- how far the program is where another page may follow
+abbrev pub on_from : ℕ → ℕ → Progress
+on_from carried position = record { carried = carried; position = position; more = true; failed = false; stopped = false }
+
+-- so many turns were made, and another page may follow
+pub record Turned (m carry page : List ℕ) (carried position made_so_far : ℕ) (m' carry' page' : List ℕ) : Type 0 where
   pub pages : List (List ℕ)
   pub calls : List Fed
-  pub made : Turns m carry page pages calls (record { carried = carried; position = position; more = more; failed = failed; stopped = stopped }) m' carry' page'
-  pub all : length pages + left ≡ 18446744073709551615
+  pub made : Turns m carry page pages calls (on_from carried position) m' carry' page'
+  pub all : length pages ≡ made_so_far
 
 -- none at first
-pub turned_none : (m carry page : List ℕ) → Turned m carry page 0 1 true false false 18446744073709551615 m carry page
+pub turned_none : (m carry page : List ℕ) → Turned m carry page 0 1 0 m carry page
 turned_none m carry page = record { pages = []; calls = []; made = none_yet; all = refl }
 
--- one more
-pub turned_on : (m carry page : List ℕ) (carried position : ℕ) (more failed stopped : Bool) (left : ℕ) (m' carry' page' : List ℕ)
-    → Turned m carry page carried position more failed stopped left m' carry' page' → more ≡ true → 0 < left → (m'' carry'' page'' : List ℕ) (p : Progress)
-    → TurnIs carried position m' carry' page' m'' carry'' page'' p
-    → Turned m carry page p.carried p.position p.more p.failed p.stopped (left - 1) m'' carry'' page''
-turned_on m carry page carried position more failed stopped left m' carry' page' t on some m'' carry'' page'' p k =
-    record {
-      pages = t.pages ++ (take k.read.held page'' ∷ []);
-      calls = t.calls ++ k.fed.calls;
-      made = one_more t.made on k;
-      all = omega (arith, t.all, length-append t.pages (take k.read.held page'' ∷ []));
-    }
-
--- no page may follow, or no turn is left to make
-pub ended_by : (more : Bool) (left : ℕ) → (more ≡ false) ⊎ (left ≤ 0) → more ≡ true → left ≡ 0
-ended_by more left (inl f) e = absurd (true≢false (sym e ∙ f))
-ended_by more left (inr h) e = omega arith
-
-module _ (m carry page : List ℕ) (carried position : ℕ) (more failed stopped : Bool) (left : ℕ) (m' carry' page' : List ℕ)
-    (t : Turned m carry page carried position more failed stopped left m' carry' page') (ended : more ≡ true → left ≡ 0) where
-  -- where the loop ends
-  closing : (m'' : List ℕ) (last : Ending) → Closes (record { carried = carried; position = position; more = more; failed = failed; stopped = stopped }) m' carry' m'' last
-      → Streamed m carry page m'' last
-  closing m'' last c =
+module _ {m carry page : List ℕ} {carried position n : ℕ} {m' carry' page' : List ℕ} (t : Turned m carry page carried position n m' carry' page') where
+  -- all turns that there may be were made
+  pub used_up : n ≡ 18446744073709551615 → {m'' carry'' : List ℕ} {found : Cut} → Finishes m' carry' carried m'' carry'' found → Streamed m carry page m'' (Log found)
+  used_up e k =
       record {
         pages = t.pages;
         calls = t.calls;
-        progress = record { carried = carried; position = position; more = more; failed = failed; stopped = stopped };
+        progress = on_from carried position;
         after = m';
         carry' = carry';
         page' = page';
         made = t.made;
-        until = λ e. omega (arith, t.all, ended e);
-        closes = c;
+        until = λ _. t.all ∙ e;
+        closes = over refl refl k;
       }
 
-  -- the log does not go on
-  pub streamed_stops : stopped ≡ true → Streamed m carry page m' (Log Impossible)
-  streamed_stops e = closing m' (Log Impossible) (stops e)
+  -- a page read and fed
+  module _ {read : Filled} {going : Going} {m'' carry'' page'' : List ℕ} (refilled : Refilled 0 page' page'' read)
+      (fed : PartFed (take read.held page'') position m' carry' carried m'' carry'' going) where
+    turn : TurnIs carried position m' carry' page' m'' carry'' page'' (progress_by read going)
+    turn = record { read = read; going = going; refilled = refilled; fed = fed; progress_is = refl }
 
-  -- a read failed
-  pub streamed_unread : stopped ≡ false → failed ≡ true → Streamed m carry page m' Unread
-  streamed_unread e f = closing m' Unread (unread e f)
+    turns : Turns m carry page (t.pages ++ (take read.held page'' ∷ [])) (t.calls ++ fed.calls) (progress_by read going) m'' carry'' page''
+    unfolding turn
+    turns = one_more t.made refl turn
 
-  -- none failed
-  pub streamed_over : stopped ≡ false → failed ≡ false → (m'' carry'' : List ℕ) (found : Cut) → Finishes m' carry' carried m'' carry'' found → Streamed m carry page m'' (Log found)
-  streamed_over e f m'' carry'' found k = closing m'' (Log found) (over e f k)
+    -- no other follows it
+    closing : {after : List ℕ} {last : Ending} → more_by read.held going.stopped ≡ false → Closes (progress_by read going) m'' carry'' after last → Streamed m carry page after last
+    closing none c =
+        record {
+          pages = t.pages ++ (take read.held page'' ∷ []);
+          calls = t.calls ++ fed.calls;
+          progress = progress_by read going;
+          after = m'';
+          carry' = carry'';
+          page' = page'';
+          made = turns;
+          until = λ e. absurd (true≢false (sym e ∙ none));
+          closes = c;
+        }
+
+    -- an empty page is the last
+    empty : going.stopped ≡ false → read.held ≡ 0 → more_by read.held going.stopped ≡ false
+    empty e z = ap (more_by read.held) e ∙ ap not (eq-eqb read.held 0 z)
+
+    -- the log does not go on
+    pub turn_stops : going.stopped ≡ true → Streamed m carry page m'' (Log Impossible)
+    turn_stops e = closing (ap (more_by read.held) e) (stops e)
+
+    -- the read failed
+    pub turn_unread : going.stopped ≡ false → read.failed ≡ true → Streamed m carry page m'' Unread
+    turn_unread e f = closing (empty e (failed_empty refilled f)) (unread e f)
+
+    -- the page is empty: the log is over
+    pub turn_over : going.stopped ≡ false → read.failed ≡ false → read.held ≡ 0 → {after carry₃ : List ℕ} {found : Cut} → Finishes m'' carry'' going.carried after carry₃ found
+        → Streamed m carry page after (Log found)
+    turn_over e f z k = closing (empty e z) (over e f k)
+
+    -- it is not: another turn may follow
+    pub turn_on : going.stopped ≡ false → read.failed ≡ false → (read.held ≡ 0 → ⊥) → Turned m carry page going.carried going.position (n + 1) m'' carry'' page''
+    turn_on e f some =
+        record {
+          pages = t.pages ++ (take read.held page'' ∷ []);
+          calls = t.calls ++ fed.calls;
+          made = subst (λ (p : Progress). Turns m carry page (t.pages ++ (take read.held page'' ∷ [])) (t.calls ++ fed.calls) p m'' carry'' page'') on turns;
+          all = omega (arith, t.all, length-append t.pages (take read.held page'' ∷ []));
+        }
+      where
+        on : progress_by read going ≡ on_from going.carried going.position
+        on = λ j. record {
+          carried = going.carried;
+          position = going.position;
+          more = (ap (more_by read.held) e ∙ ap not (ne_eqb read.held 0 some)) j;
+          failed = f j;
+          stopped = e j;
+        }

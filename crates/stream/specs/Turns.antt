@@ -10,8 +10,16 @@ use Rattle.lines.specs.Parts.{PartFed, Finishes}
 use Rattle.stream.specs.declared.closing.Ending.{Ending}
 use Rattle.stream.specs.declared.closing.Ending.TheVariants.{Log, Unread}
 use Rattle.stream.specs.declared.input.Filled.{Filled}
-use Rattle.stream.specs.declared.turns.Progress.{Progress}
 use Rattle.stream.specs.Buffer.{Refilled}
+
+-- how far the program is: the bytes carried, the position of the record that comes next, whether another page may follow, whether the last
+-- read failed, and whether the log does not go on
+pub record Progress : Type 0 where
+  pub carried : ℕ
+  pub position : ℕ
+  pub more : Bool
+  pub failed : Bool
+  pub stopped : Bool
 
 -- whether another page may follow one of so many bytes: not behind an empty one, nor where the log does not go on
 abbrev pub more_by : ℕ → Bool → Bool

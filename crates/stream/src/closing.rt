@@ -4,7 +4,8 @@ use record::Answer;
 use record_log::Cut;
 use std::io::Print;
 
-// What a run ends with: the answer to limits that cannot be, what stands behind the last record of the log, or a read that failed.
+// What a run ends with: the answer to limits that cannot be, what stands behind the last record of the log, or a read that failed. Each is printed
+// in its own way, and none is an error to be handed on.
 #[derive(Clone, Copy)]
 pub enum Ending {
     Limits(Answer),

@@ -5,7 +5,8 @@ ghost use Rattle.stream.specs.Buffer.{filled_by, Refilled, FilledUp};
 use std::io;
 use std::io::Read;
 
-// How many bytes are held at the front of a buffer after a read, and whether the read failed.
+// How many bytes are held at the front of a buffer after a read, and whether the read failed. The bytes held are there behind a failed read too, so
+// the number stands beside the flag.
 #[derive(Clone, Copy)]
 pub struct Filled {
     pub held: usize,
@@ -45,6 +46,7 @@ pub fn fill<R: Read>(input: &mut R, buffer: &mut [u8], held: usize) -> Filled
     ensures within { result.held ≤ length buffer.new }
 {
     let mut held = held;
+    // It moves on by what was read, so no index is counted.
     while held < buffer.len() {
         let filled = refill(input, buffer, held);
         if filled.held == held {

@@ -5,7 +5,6 @@ use crate::closing::Ending;
 use crate::input::fill;
 use crate::turns::meld_through;
 use lines::{HEAD, Output, open};
-use record::Answer;
 use record::limits::MAX_SIZE;
 use std::io::{Print, Read};
 
@@ -27,14 +26,12 @@ pub fn meld_input<R: Read, P: Print>(
     if limits.failed {
         return Ending::Unread;
     }
-    let held = limits.held;
-    let asked = open(pool, &head[..held], most);
-    let answer = asked.answer;
-    let size = asked.size;
-    if answer.number != Answer::COMMITTED.number {
-        return Ending::Limits(answer);
+    match open(pool, &head[..limits.held], most) {
+        Ok(size) => {
+            let mut carry = [0u8; MAX_SIZE];
+            let mut page = [0u8; PAGE];
+            meld_through(input, out, &mut pool[..size], &mut carry, &mut page)
+        }
+        Err(answer) => Ending::Limits(answer),
     }
-    let mut carry = [0u8; MAX_SIZE];
-    let mut page = [0u8; PAGE];
-    meld_through(input, out, &mut pool[..size], &mut carry, &mut page)
 }

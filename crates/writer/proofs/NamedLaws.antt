@@ -11,13 +11,13 @@ use borrow.Author.Tests.{le-ltb, ltb-false, eqb-true}
 use Rattle.record.specs.declared.point.Point.{Point}
 use Rattle.record.specs.declared.point.Point.TheVariants.{Read, Put, Delete}
 use Rattle.record.specs.declared.point.Scan.{Scan}
-use Rattle.record.specs.declared.checker.PointStep.TheVariants as PointStep
-use Rattle.record.specs.declared.checker.ScanStep.TheVariants as ScanStep
-use Rattle.record.specs.Record.{kind_of, key_of, payload_of, point_bytes, points_bytes, scan_bytes, scans_bytes, PointsRise, Apart}
+use Rattle.std.specs.Prelude.{Some}
+use Rattle.record.specs.Record.{kind_of, key_of, payload_of, point_bytes, points_bytes, scan_bytes, scans_bytes, size_of, PointsRise, Apart}
 use Rattle.record.specs.Parse.{Parsed, bad, took}
 use Rattle.record.specs.Reader.{low_of, high_of}
-use Rattle.record.proofs.Cases.{by_case, no_point, no_scan_lem, after_point_lem, after_scan_lem}
-use Rattle.record.proofs.Sizes.{size_of, point_size, scan_bytes_size}
+use Rattle.record.specs.Steps.{no_item, same_item, by_test}
+use Rattle.record.proofs.Cases.{after_took}
+use Rattle.record.proofs.Sizes.{point_size, scan_bytes_size}
 use Rattle.writer.specs.Writer.{point_named, scan_named, named_points, named_scans}
 
 -- two lists that agree in front and behind
@@ -26,59 +26,29 @@ cons_same a b l m p q = cc
 
 -- a refusal is no run
 no_run : {A P : Type 0} {xs : List A} {e : ℕ} → ◌≡◌ {A = Parsed A} bad (took xs e) → P
-no_run h = let z : ◌≡◌ {A = ℕ} 0 1 = cc in absurd (omega arith)
+no_run h = cc
 
 -- POINTS
 
 -- what a kind, a key and a payload say of the point that they name
-record PointIs (low kind key payload : ℕ) (p : Point) (size : ℕ) : Type 0 where
+record PointIs (low kind key payload : ℕ) (p : Point) : Type 0 where
   kind_is : kind ≡ kind_of p
   key_is : key ≡ key_of p
   payload_is : payload ≡ payload_of p
   low_le : low ≤ key_of p
-  size_is : size ≡ length (point_bytes p)
-
--- what a step reports
-same_point : (low kind key payload : ℕ) (q p : Point) (k size : ℕ) → PointStep.Next q k ≡ PointStep.Next p size
-    → PointIs low kind key payload q k → PointIs low kind key payload p size
-same_point low kind key payload q p k size e h =
-    let a : q ≡ p = cc in
-    let b : k ≡ size = cc in
-    subst (λ (y : Point). PointIs low kind key payload y size) a (subst (λ (n : ℕ). PointIs low kind key payload q n) b h)
 
 -- a point that was named is what kind, key and payload say
-point_is : (low kind key payload : ℕ) (p : Point) (size : ℕ) → point_named low kind key payload ≡ PointStep.Next p size → PointIs low kind key payload p size
+point_is : (low kind key payload : ℕ) (p : Point) → point_named low kind key payload ≡ Some p → PointIs low kind key payload p
 unfolding point_named
-point_is low kind key payload p size e =
-    by_case (ltb key low) (λ a. no_point (simp a at e)) λ a.
-    let l = ltb-false _ _ a in
-    by_case (eqb kind 2)
-    (λ b. same_point low kind key payload _ p _ size (simp (a, b) at e) (record {
-      kind_is = eqb-true _ _ b;
-      key_is = refl;
-      payload_is = refl;
-      low_le = l;
-      size_is = sym (point_size (Put key payload));
-    })) λ b.
-    by_case (eqb payload 0)
-    (λ d. by_case (eqb kind 1)
-    (λ f. same_point low kind key payload _ p _ size (simp (a, b, d, f) at e) (record {
-      kind_is = eqb-true _ _ f;
-      key_is = refl;
-      payload_is = eqb-true _ _ d;
-      low_le = l;
-      size_is = sym (point_size (Read key));
-    }))
-    (λ f. by_case (eqb kind 3)
-    (λ g. same_point low kind key payload _ p _ size (simp (a, b, d, f, g) at e) (record {
-      kind_is = eqb-true _ _ g;
-      key_is = refl;
-      payload_is = eqb-true _ _ d;
-      low_le = l;
-      size_is = sym (point_size (Delete key));
-    }))
-    (λ g. no_point (simp (a, b, d, f, g) at e))))
-    (λ d. no_point (simp (a, b, d) at e))
+point_is low kind key payload p e =
+    let P : Point → Type 0 = PointIs low kind key payload in
+    by_test (ltb key low) _ _ p e (λ _ e. no_item e) λ a e.
+    let l : low ≤ key = ltb-false _ _ a in
+    by_test (eqb kind 2) _ _ p e (λ k e. same_item P _ p e (record { kind_is = eqb-true _ _ k; key_is = refl; payload_is = refl; low_le = l })) λ _ e.
+    by_test (eqb payload 0) _ _ p e (λ d e.
+    by_test (eqb kind 1) _ _ p e (λ k e. same_item P _ p e (record { kind_is = eqb-true _ _ k; key_is = refl; payload_is = eqb-true _ _ d; low_le = l })) λ _ e.
+    by_test (eqb kind 3) _ _ p e (λ k e. same_item P _ p e (record { kind_is = eqb-true _ _ k; key_is = refl; payload_is = eqb-true _ _ d; low_le = l }))
+    (λ _ e. no_item e)) (λ _ e. no_item e)
 
 -- keys that rise from low on
 abbrev pub PointsInOrder : ℕ → List Point → Type 0
@@ -106,19 +76,19 @@ points_named [] (k ∷ es) xs low at ps e h = no_run h
 points_named (k ∷ ks) [] xs low at ps e h = no_run h
 points_named (k ∷ ks) (y ∷ es) [] low at ps e h = no_run h
 points_named (k ∷ ks) (y ∷ es) (x ∷ xs) low at ps e h =
-    after_point_lem (point_named low k y x) (λ p size. named_points (key_of p + 1) ks es xs (at + size)) ps e h λ p size qs a b d.
-    let s : PointIs low k y x p size = point_is low k y x p size a in
-    let i : PointsNamed (key_of p + 1) ks es xs (at + size) qs e = points_named ks es xs (key_of p + 1) (at + size) qs e b in
+    after_took (point_named low k y x) (λ p. named_points (key_of p + 1) ks es xs (at + size_of p)) ps e h λ p qs a b d.
+    let s : PointIs low k y x p = point_is low k y x p a in
+    let i : PointsNamed (key_of p + 1) ks es xs (at + size_of p) qs e = points_named ks es xs (key_of p + 1) (at + size_of p) qs e b in
     subst (λ (z : List Point). PointsNamed low (k ∷ ks) (y ∷ es) (x ∷ xs) at z e) (sym d) (record {
       kinds_are = cons_same k (kind_of p) ks (map kind_of qs) s.kind_is i.kinds_are;
       keys_are = cons_same y (key_of p) es (map key_of qs) s.key_is i.keys_are;
       payloads_are = cons_same x (payload_of p) xs (map payload_of qs) s.payload_is i.payloads_are;
       ordered = (s.low_le, i.ordered);
-      place = omega (arith, i.place, s.size_is, length-append (point_bytes p) (points_bytes qs));
+      place = omega (arith, i.place, point_size p, length-append (point_bytes p) (points_bytes qs));
     })
 
 -- a point is named by its own kind, key and payload
-point_own : (p : Point) (low : ℕ) → low ≤ key_of p → point_named low (kind_of p) (key_of p) (payload_of p) ≡ PointStep.Next p (size_of p)
+point_own : (p : Point) (low : ℕ) → low ≤ key_of p → point_named low (kind_of p) (key_of p) (payload_of p) ≡ Some p
 unfolding point_named
 point_own (Read k) low l = simp (le-ltb _ _ l)
 point_own (Put k x) low l = simp (le-ltb _ _ l)
@@ -142,14 +112,12 @@ record ScanIs (floor low high : ℕ) (c : Scan) : Type 0 where
   low_le : c.low ≤ c.high
 
 -- a scan that was named is what low and high say
-scan_is : (floor low high : ℕ) (c : Scan) → scan_named floor low high ≡ ScanStep.Next c → ScanIs floor low high c
+scan_is : (floor low high : ℕ) (c : Scan) → scan_named floor low high ≡ Some c → ScanIs floor low high c
 unfolding scan_named
 scan_is floor low high c e =
-    by_case (ltb low floor) (λ a. no_scan_lem (simp a at e)) λ a.
-    by_case (ltb high low) (λ b. no_scan_lem (simp (a, b) at e)) λ b.
-    let z : ScanStep.Next (record { low = low; high = high }) ≡ ScanStep.Next c = simp (a, b) at e in
-    let q : record { low = low; high = high } ≡ c = cc in
-    subst (λ (y : Scan). ScanIs floor low high y) q (record { low_is = refl; high_is = refl; floor_le = ltb-false _ _ a; low_le = ltb-false _ _ b })
+    by_test (ltb low floor) _ _ c e (λ _ e. no_item e) λ a e.
+    by_test (ltb high low) _ _ c e (λ _ e. no_item e) λ b e.
+    same_item (ScanIs floor low high) _ c e (record { low_is = refl; high_is = refl; floor_le = ltb-false _ _ a; low_le = ltb-false _ _ b })
 
 -- scans from a floor on, each above the one before
 abbrev pub ScansInOrder : ℕ → List Scan → Type 0
@@ -173,7 +141,7 @@ scans_named [] [] floor at cs e h =
 scans_named [] (y ∷ hs) floor at cs e h = no_run h
 scans_named (x ∷ ls) [] floor at cs e h = no_run h
 scans_named (x ∷ ls) (y ∷ hs) floor at cs e h =
-    after_scan_lem (scan_named floor x y) (λ c. named_scans (c.high + 1) ls hs (at + 8)) cs e h λ c ds a b d.
+    after_took (scan_named floor x y) (λ c. named_scans (c.high + 1) ls hs (at + 8)) cs e h λ c ds a b d.
     let s : ScanIs floor x y c = scan_is floor x y c a in
     let i : ScansNamed (c.high + 1) ls hs (at + 8) ds e = scans_named ls hs (c.high + 1) (at + 8) ds e b in
     subst (λ (z : List Scan). ScansNamed floor (x ∷ ls) (y ∷ hs) at z e) (sym d) (record {
@@ -184,7 +152,7 @@ scans_named (x ∷ ls) (y ∷ hs) floor at cs e h =
     })
 
 -- a scan is named by its own low and high
-scan_own : (c : Scan) (floor : ℕ) → floor ≤ c.low → c.low ≤ c.high → scan_named floor c.low c.high ≡ ScanStep.Next c
+scan_own : (c : Scan) (floor : ℕ) → floor ≤ c.low → c.low ≤ c.high → scan_named floor c.low c.high ≡ Some c
 unfolding scan_named
 scan_own c floor a b = simp (le-ltb _ _ a, le-ltb _ _ b)
 

@@ -1,6 +1,6 @@
 -- What `named_size` meets at each return: a rule broken names no record; else the place past the scans is the record's size.
 -- Assumes nothing.
-use Prim.Native.Nat.{ℕ, ◌≤◌, ◌<◌}
+use Prim.Native.Nat.{ℕ, ◌≤◌}
 use mathlib.Core.Path.{◌≡◌, refl, sym, ap, ◌∙◌}
 use mathlib.Core.Bool.{◌&&◌}
 use mathlib.Core.Option.{Option, none, some}
@@ -10,7 +10,7 @@ use lib.ListN.{length, length-map}
 use lib.Dec.{leb}
 use borrow.Author.Tests.{le-leb}
 use Rattle.record.specs.declared.point.Point.{Point}
-use Rattle.record.specs.declared.checker.End.{End}
+use Rattle.std.specs.Prelude.{Option as Optional, Some, None}
 use Rattle.record.specs.Record.{Rec, kind_of, key_of, payload_of, bytes_of, version_for, version_of, head_size}
 use Rattle.record.specs.Parse.{took, end_of, list_of}
 use Rattle.record.specs.Reader.{Lists, lists, low_of, high_of}
@@ -22,7 +22,7 @@ use Rattle.writer.proofs.NamedLaws.{PointsNamed, ScansNamed, points_named, scans
 use Rattle.writer.proofs.Names.{ListsName, lists_name}
 
 -- lists that can name no record
-refuse : (x : Option Rec) → ((r : Rec) → x ≡ some r → ⊥) → End.Bad ≡ size_end x
+refuse : (x : Option Rec) → ((r : Rec) → x ≡ some r → ⊥) → None ≡ size_end x
 refuse none f = refl
 refuse (some r) f = absurd (f r refl)
 
@@ -56,56 +56,36 @@ any_snapshot s t l =
     let q : Rec = record { snapshot = s; points = ps; scans = cs } in
     let r : Rec = record { snapshot = t; points = ps; scans = cs } in
     let n : length (bytes_of q) ≡ length (bytes_of r) = omega (arith, whole_size q, body_size q, whole_size r, body_size r) in
-    simp (x, y, v) (ap End.At n))
+    simp (x, y, v) (ap Some n))
     (λ v. simp (x, y, v))
 
 module _ (ks es xs ls hs : List ℕ) where
-  -- not as many keys as kinds
-  pub size_keys : (length es ≡ length ks → ⊥) → End.Bad ≡ size_end (record_of 0 (lists ks es xs ls hs))
-  size_keys h =
+  -- lists of unequal length, more than 1,024 points or more than 64 scans
+  pub size_lists : (length es ≡ length ks → length xs ≡ length ks → length hs ≡ length ls → length ks ≤ 1024 → length ls ≤ 64 → ⊥)
+      → None ≡ size_end (record_of 0 (lists ks es xs ls hs))
+  size_lists h =
       refuse (record_of 0 (lists ks es xs ls hs)) λ r e.
-      let n = lengths 0 ks es xs ls hs r (lists_name 0 (lists ks es xs ls hs) r e) in h (n.keys_long ∙ sym n.kinds_long)
-
-  -- not as many payloads as kinds
-  pub size_payloads : (length xs ≡ length ks → ⊥) → End.Bad ≡ size_end (record_of 0 (lists ks es xs ls hs))
-  size_payloads h =
-      refuse (record_of 0 (lists ks es xs ls hs)) λ r e.
-      let n = lengths 0 ks es xs ls hs r (lists_name 0 (lists ks es xs ls hs) r e) in h (n.payloads_long ∙ sym n.kinds_long)
-
-  -- not as many highs as lows
-  pub size_highs : (length hs ≡ length ls → ⊥) → End.Bad ≡ size_end (record_of 0 (lists ks es xs ls hs))
-  size_highs h =
-      refuse (record_of 0 (lists ks es xs ls hs)) λ r e.
-      let n = lengths 0 ks es xs ls hs r (lists_name 0 (lists ks es xs ls hs) r e) in h (n.highs_long ∙ sym n.lows_long)
-
-  -- more than 1,024 points
-  pub size_points : 1024 < length ks → End.Bad ≡ size_end (record_of 0 (lists ks es xs ls hs))
-  size_points h =
-      refuse (record_of 0 (lists ks es xs ls hs)) λ r e.
-      let n = lists_name 0 (lists ks es xs ls hs) r e in omega (arith, n.few_points, (lengths 0 ks es xs ls hs r n).kinds_long)
-
-  -- more than 64 scans
-  pub size_scans : 64 < length ls → End.Bad ≡ size_end (record_of 0 (lists ks es xs ls hs))
-  size_scans h =
-      refuse (record_of 0 (lists ks es xs ls hs)) λ r e.
-      let n = lists_name 0 (lists ks es xs ls hs) r e in omega (arith, n.few_scans, (lengths 0 ks es xs ls hs r n).lows_long)
+      let n = lists_name 0 (lists ks es xs ls hs) r e in
+      let l = lengths 0 ks es xs ls hs r n in
+      h (l.keys_long ∙ sym l.kinds_long) (l.payloads_long ∙ sym l.kinds_long) (l.highs_long ∙ sym l.lows_long)
+      (omega (arith, n.few_points, l.kinds_long)) (omega (arith, n.few_scans, l.lows_long))
 
   -- it stands at 11 at the latest
   pub start_most : (v : ℕ) → v ≡ version_for (length ks) (length ls) → (start : ℕ) → start ≡ head_size v → start ≤ 11
   start_most v e start i = omega (arith, version_most (length ks) (length ls))
 
   module _ (v : ℕ) (is-v : v ≡ version_for (length ks) (length ls)) (start : ℕ) (is-start : start ≡ head_size v)
-      (rp : End) (is-p : rp ≡ end_of (named_points 0 ks es xs start)) where
+      (rp : Optional ℕ) (is-p : rp ≡ end_of (named_points 0 ks es xs start)) where
     -- the first point stands there
     here : start ≡ start_for (lists ks es xs ls hs)
     here = is-start ∙ ap head_size is-v
 
     -- points that break a rule
-    pub size_points_bad : rp ≡ End.Bad → End.Bad ≡ size_end (record_of 0 (lists ks es xs ls hs))
+    pub size_points_bad : rp ≡ None → None ≡ size_end (record_of 0 (lists ks es xs ls hs))
     unfolding record_of
     size_points_bad h = simp (← here, bad_end (named_points 0 ks es xs start) (sym is-p ∙ h))
 
-    module _ (at : ℕ) (is_at : rp ≡ End.At at) (few_points : length ks ≤ 1024) where
+    module _ (at : ℕ) (is_at : rp ≡ Some at) (few_points : length ks ≤ 1024) where
       -- the points named
       ps : List Point
       ps = list_of (named_points 0 ks es xs start)
@@ -132,7 +112,7 @@ module _ (ks es xs ls hs : List ℕ) where
       size_place = omega (arith, points_are.place, points_size_most ps, points_few, start_most v is-v start is-start)
 
       -- with the scans behind them: the size, or a refusal
-      pub size_whole : (r : End) → r ≡ end_of (named_scans 0 ls hs at) → length ls ≤ 64 → r ≡ size_end (record_of 0 (lists ks es xs ls hs))
+      pub size_whole : (r : Optional ℕ) → r ≡ end_of (named_scans 0 ls hs at) → length ls ≤ 64 → r ≡ size_end (record_of 0 (lists ks es xs ls hs))
       unfolding record_of
       size_whole r is few_scans =
           took_or (named_scans 0 ls hs at) (λ y. is ∙ simp (← here, points_at, y)) λ cs end y.
@@ -142,4 +122,4 @@ module _ (ks es xs ls hs : List ℕ) where
           let few : length cs ≤ 64 = omega (arith, scans_long) in
           let version_is : v ≡ version_of q = is-v ∙ rw (points_long, scans_long) in
           let n : end ≡ length (bytes_of q) = omega (arith, s.place, points_are.place, whole_size q, body_size q, is-start ∙ ap head_size version_is) in
-          is ∙ simp (← here, points_at, y, le-leb _ _ points_few, le-leb _ _ few) (ap End.At n)
+          is ∙ simp (← here, points_at, y, le-leb _ _ points_few, le-leb _ _ few) (ap Some n)

@@ -7,12 +7,11 @@ use mathlib.Core.List.{List, [], ◌∷◌, ◌++◌, append-nil}
 use native.Mathlib.Omega.{arith}
 use native.Mathlib.Numerals.{add-one}
 use lib.ListN.{length, get_or, drop, set, length-set, length-append, drop_of_length-le}
-use lib.Seq.{sets, length-sets, drop-cons}
+use lib.Seq.{sets, drop-cons}
 use lib.Dec.{eqb}
 use borrow.Author.Tests.{ne_eqb}
 use Rattle.words.specs.Word.{big_endian, put_word}
 use Rattle.words.specs.Laws.{length_big_endian, length_put, put_sets, sets_append}
-use Rattle.record.specs.Record.{head_size}
 use Rattle.writer.specs.Stored.{head_bytes, stored_point, stored_points, stored_scan, stored_scans}
 
 -- A NUMBER STORED IS A RUN OF STORES (`put_sets`)
@@ -23,10 +22,6 @@ behind k x vs s at = sets_append (big_endian k x) vs s at ∙ ap (λ (n : ℕ). 
 
 -- A COUNT
 
--- it is 1 or 2
-pub two_left : (v : ℕ) → 1 ≤ v → v ≤ 2 → (v ≡ 1 → ⊥) → v ≡ 2
-two_left v a b n = omega arith
-
 module _ (v at count : ℕ) (s : List ℕ) where
   -- in one byte
   pub count_one : v ≡ 1 → count < 256 ^ v → set s at count ≡ put_word v s at count
@@ -36,55 +31,7 @@ module _ (v at count : ℕ) (s : List ℕ) where
       let byte : count % 256 ≡ count = omega arith in
       sym (ap (λ (n : ℕ). put_word n s at count) e ∙ ap (set s at) byte)
 
-  -- in two
-  pub count_two : 1 ≤ v → v ≤ 2 → (v ≡ 1 → ⊥) → (r : List ℕ) → r ≡ put_word 2 s at count → r ≡ put_word v s at count
-  count_two a b n r e = let two : v ≡ 2 = two_left v a b n in e ∙ ap (λ (m : ℕ). put_word m s at count) (sym two)
-
--- there is room for it, and it fits
-pub one_room : (v at n : ℕ) → v ≡ 1 → at + v ≤ n → at < n
-one_room v at n e h = omega arith
-
-pub one_fits : (v count : ℕ) → v ≡ 1 → count < 256 ^ v → count < 2 ^ 8
-one_fits v count e h = let z : count < 256 = subst (λ (n : ℕ). count < 256 ^ n) e h in omega arith
-
-pub two_room : (v at n : ℕ) → 1 ≤ v → v ≤ 2 → (v ≡ 1 → ⊥) → at + v ≤ n → at + 2 ≤ n
-two_room v at n a b d h = omega (arith, two_left v a b d)
-
-pub two_fits : (v count : ℕ) → 1 ≤ v → v ≤ 2 → (v ≡ 1 → ⊥) → count < 256 ^ v → count < 65536
-two_fits v count a b n h = let z : count < 256 ^ 2 = subst (λ (m : ℕ). count < 256 ^ m) (two_left v a b n) h in omega arith
-
 -- THE HEAD
-
-module _ (s o q : List ℕ) (i n v x : ℕ) (first : o ≡ put_word 2 s i n) where
-  -- the length is as before
-  length_first : length o ≡ length s
-  length_first = ap length first ∙ length_put 2 s i n
-
-  -- there is room for the snapshot
-  pub head_snapshot : head_size v ≤ length s → 3 + 4 ≤ length (set o 2 v)
-  head_snapshot h = simp length-set (omega (arith, length_first))
-
-  module _ (j : ℕ) (second : q ≡ put_word 4 (set o 2 v) j x) where
-    -- the length is as before
-    length_second : length q ≡ length s
-    length_second = ap length second ∙ length_put 4 (set o 2 v) j x ∙ length-set o 2 v ∙ length_first
-
-    -- there is room for the number of points
-    pub head_points : head_size v ≤ length s → 7 + v ≤ length q
-    head_points h = omega (arith, length_second)
-
-    module _ (k a : ℕ) (p : List ℕ) (third : p ≡ put_word v q k a) where
-      -- the length is as before
-      length_third : length p ≡ length s
-      length_third = ap length third ∙ length_put v q k a ∙ length_second
-
-      -- there is room for the number of scans
-      pub head_scans : head_size v ≤ length s → 7 + v + v ≤ length p
-      head_scans h = omega (arith, length_third)
-
-      -- the length is as before
-      pub head_same : (l b : ℕ) (c : List ℕ) → c ≡ put_word v p l b → length c ≡ length s
-      head_same l b c e = ap length e ∙ length_put v p l b ∙ length_third
 
 -- the five stores are the head
 pub head_stored : (s o q p c : List ℕ) (n v x a b : ℕ) → o ≡ put_word 2 s 0 n → q ≡ put_word 4 (set o 2 v) 3 x → p ≡ put_word v q 7 a → c ≡ put_word v p (7 + v) b
@@ -139,10 +86,6 @@ module _ (kind key payload at : ℕ) (s : List ℕ) where
       point_payload h = omega (arith, ap length is ∙ length_put 4 (set s at kind) (at + 1) key ∙ length-set s at kind, put_size h)
 
   module _ (o : List ℕ) (is : o ≡ put_word 4 (set s at kind) (at + 1) key) where
-    -- the length is as before
-    pub point_same : length o ≡ length s
-    point_same = ap length is ∙ length_put 4 (set s at kind) (at + 1) key ∙ length-set s at kind
-
     -- kind and key are one run
     key_stored : o ≡ sets (set s at kind) (suc at) (big_endian 4 key)
     key_stored = is ∙ put_sets 4 (set s at kind) (at + 1) key ∙ ap (λ (n : ℕ). sets (set s at kind) n (big_endian 4 key)) (add-one at)
@@ -152,10 +95,6 @@ module _ (kind key payload at : ℕ) (s : List ℕ) where
     point_stored_other h = key_stored ∙ sym (ap (sets s at) (stored_other h))
 
     module _ (q : List ℕ) (put : q ≡ put_word 8 o (at + 5) payload) where
-      -- the length is as before
-      pub point_same_put : length q ≡ length s
-      point_same_put = ap length put ∙ length_put 8 o (at + 5) payload ∙ point_same
-
       -- a put is stored
       pub point_stored_put : kind ≡ 2 → q ≡ sets s at (stored_point kind key payload)
       point_stored_put h =
@@ -164,10 +103,6 @@ module _ (kind key payload at : ℕ) (s : List ℕ) where
           ∙ sym (ap (sets s at) (stored_put h))
 
 -- A TURN OF THE LOOPS
-
--- the length is as before
-pub turn_same : (l l' vs : List ℕ) (at m : ℕ) → l' ≡ sets l at vs → length l ≡ m → length l' ≡ m
-turn_same l l' vs at m e h = ap length e ∙ length-sets l at vs ∙ h
 
 module _ (ks es xs : List ℕ) (keys_same : length es ≡ length ks) (payloads_same : length xs ≡ length ks) (at i : ℕ) where
   module _ (more : i < length ks) where
@@ -227,15 +162,7 @@ scan_size x y = omega (arith, length-append (big_endian 4 x) (big_endian 4 y), l
 
 -- two numbers stored one behind the other
 module _ (s o q : List ℕ) (at x y : ℕ) (is : o ≡ put_word 4 s at x) where
-  -- there is room for the high
-  pub scan_high_room : at + 8 ≤ length s → at + 4 + 4 ≤ length o
-  scan_high_room h = omega (arith, ap length is ∙ length_put 4 s at x)
-
   module _ (put : q ≡ put_word 4 o (at + 4) y) where
-    -- the length is as before
-    pub scan_same : length q ≡ length s
-    scan_same = ap length put ∙ length_put 4 o (at + 4) y ∙ ap length is ∙ length_put 4 s at x
-
     -- the two stores are the scan
     pub scan_stored : q ≡ sets s at (stored_scan x y)
     scan_stored = put ∙ put_sets 4 o (at + 4) y ∙ ap (λ (l : List ℕ). sets l (at + 4) (big_endian 4 y)) (is ∙ put_sets 4 s at x) ∙ sym (behind 4 x (big_endian 4 y) s at)
@@ -257,10 +184,6 @@ module _ (ls hs : List ℕ) (highs_same : length hs ≡ length ls) (at i : ℕ) 
       -- there is room for this scan
       pub scans_room : at + 8 ≤ m
       scans_room = omega (arith, scans_turn_length)
-
-      -- the place behind it fits a usize
-      pub scans_fits : m < 2 ^ 64 → at + 8 < 2 ^ 64
-      scans_fits j = omega (arith, scans_turn_length)
 
     -- the rest ends where the run ends
     pub scans_place : (n : ℕ) → n ≡ at + length (stored_scans (drop i ls) (drop i hs)) → n ≡ at + 8 + length (stored_scans (drop (i + 1) ls) (drop (i + 1) hs))

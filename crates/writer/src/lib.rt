@@ -5,31 +5,17 @@
 mod rules;
 mod store;
 
-ghost use Rattle.std.specs.Prelude.{◌≡◌};
 ghost use Rattle.record.specs.Reader.{lists};
-ghost use Rattle.writer.specs.Writer.{write_refused, WritesAs};
+ghost use Rattle.writer.specs.Writer.{WritesAs};
 
-use record::{Answer, End, head_size, version_for};
+use record::{Answer, head_size, version_for};
 use rules::named_size;
 pub use store::{put_head, put_point, put_scan};
 use store::{put_points, put_scans};
 
-// What the writer gives back beside the output: the answer, and on 0 the record's size in bytes.
-#[derive(Clone, Copy)]
-pub struct Written {
-    pub answer: Answer,
-    pub size: usize,
-}
-
-// A refusal: the size is 0.
-fn refusal(answer: Answer) -> Written
-    ensures { result ≡ write_refused answer }
-{
-    Written { answer, size: 0 }
-}
-
-// Writes the record that the lists name to the front of the output; the rest of the output stays as it was.
-// 4 where the lists break a rule, then 8 where the output is too short: both change nothing and give size 0.
+// Writes the record that the lists name to the front of the output, and gives its size in bytes; the rest of the output stays as it was.
+// 4 where the lists break a rule, then 8 where the output is too short: both change nothing.
+// The lists are those of the C interface, so they are lent one by one.
 pub fn write(
     snapshot: u32,
     kinds: &[u8],
@@ -38,16 +24,14 @@ pub fn write(
     lows: &[u32],
     highs: &[u32],
     output: &mut [u8],
-) -> Written
+) -> Result<usize, Answer>
     ensures { WritesAs snapshot
         (lists kinds.now keys.now payloads.now lows.now highs.now)
         output.old result output.new }
 {
-    let End::At(size) = named_size(kinds, keys, payloads, lows, highs) else {
-        return refusal(Answer::MALFORMED);
-    };
+    let size = named_size(kinds, keys, payloads, lows, highs).ok_or(Answer::MALFORMED)?;
     if output.len() < size {
-        return refusal(Answer::OUTPUT_SHORT);
+        return Err(Answer::OUTPUT_SHORT);
     }
     let version = version_for(kinds.len(), lows.len());
     put_head(
@@ -60,8 +44,5 @@ pub fn write(
     );
     let at = put_points(kinds, keys, payloads, head_size(version), output);
     put_scans(lows, highs, at, output);
-    Written {
-        answer: Answer::COMMITTED,
-        size,
-    }
+    Ok(size)
 }

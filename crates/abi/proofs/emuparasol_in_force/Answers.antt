@@ -4,7 +4,7 @@ use borrow.Author.Rules.{rules}
 use Rattle.abi.proofs.emuparasol_in_force.Goals as goal
 
 pub returns-then-answer : goal.returns-then-answer
-returns-then-answer c = search (after_other, rules)
+returns-then-answer c = search (after_zero, rules)
 
-pub returns : goal.returns
-returns c = search (after_zero, rules)
+pub returns-else-answer : goal.returns-else-answer
+returns-else-answer c = search (after_other, rules)

@@ -6,8 +6,8 @@ use Rattle.conflict_search.proofs.conflict.Goals as goal
 pub returns-then-root : goal.returns-then-root
 returns-then-root c = at_none _ c.read_header-root.ensures _ _ c.if-root.true
 
-pub search-w-requires : goal.search-w-requires
-search-w-requires c = root_ready _ c.read_header-root.ensures c.if-root.false c.requires.0 c.requires.1
+pub search-leaf-requires : goal.search-leaf-requires
+search-leaf-requires c = root_ready _ c.read_header-root.ensures c.if-root.false c.requires
 
 pub returns : goal.returns
-returns c = at_root _ c.read_header-root.ensures c.if-root.false c.search-w.ensures
+returns c = at_root _ c.read_header-root.ensures c.if-root.false c.search-leaf.ensures

@@ -18,11 +18,11 @@ middle-requires t c = inner_height _ _ _ c.read_node-n.ensures c.if-n-eq0.false 
 pub descend-requires : goal.descend-requires
 descend-requires t c = go_left _ _ 0 _ c.read_node-n.ensures c.if-n-eq0.false _ c.decreases c.requires
 
-pub returns-then-widen-middle : goal.returns-then-widen-middle
-returns-then-widen-middle t c = from_left _ _ _ _ c.read_node-n.ensures c.if-n-eq0.false _ (omega (arith, c.if-widen-middle.true, c.widen.ensures, c.middle.ensures)) c.descend.ensures
+pub returns-then-from-middle : goal.returns-then-from-middle
+returns-then-from-middle t c = from_left _ _ _ _ c.read_node-n.ensures c.if-n-eq0.false _ (omega (arith, c.if-from-middle.true, c.from.ensures, c.middle.ensures)) c.descend.ensures
 
 pub descend-requires-2 : goal.descend-requires-2
 descend-requires-2 t c = go_right _ _ 0 _ c.read_node-n.ensures c.if-n-eq0.false _ c.decreases c.requires
 
 pub returns : goal.returns
-returns t c = from_right _ _ _ _ c.read_node-n.ensures c.if-n-eq0.false _ (omega (arith, c.if-widen-middle.false, c.widen.ensures, c.middle.ensures)) c.descend-2.ensures
+returns t c = from_right _ _ _ _ c.read_node-n.ensures c.if-n-eq0.false _ (omega (arith, c.if-from-middle.false, c.from.ensures, c.middle.ensures)) c.descend-2.ensures

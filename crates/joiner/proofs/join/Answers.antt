@@ -1,48 +1,79 @@
 -- `join` meets its contract: a law of JoinLaws for each return, and for what each step of the second pass asks.
 -- Assumes nothing.
-use Rattle.joiner.proofs.Parts.{few_points, few_scans, start_within}
-use Rattle.joiner.proofs.JoinLaws.{head_is, join_no_a, join_no_b, join_cannot, join_two, join_length_fits, join_length, join_points_fit, join_scans_fit, join_snapshot, join_points, join_scans, join_scans_a, join_scans_b, join_version_least, join_version_most, join_points_width, join_scans_width, join_head_room, join_points_room, join_scans_room, join_whole, join_short, join_least}
+use Rattle.joiner.proofs.JoinLaws.{join_no_a, join_no_b, join_cannot, ready, join_two, join_length_fits, join_length, join_points_fit, join_scans_fit, join_snapshot, join_points, join_points_a, join_points_b, join_scans, join_scans_a, join_scans_b, join_version_least, join_version_most, join_points_width, join_scans_width, join_head_room, join_points_room, join_scans_room, join_whole, join_short}
 use borrow.Author.Rules.{rules}
 use Rattle.joiner.proofs.join.Goals as goal
 
-pub returns-in_default : goal.returns-in_default
-returns-in_default c = search (join_no_a, rules)
+pub returns-in_err-head_a : goal.returns-in_err-head_a
+returns-in_err-head_a c =
+    let e = join_no_a c.args.a.now c.args.b.now _ c.head_of.ensures c.in_err-head_a.ensures.ok_part _ c.in_err-head_a.ensures.value c.args.output.now in search rules
 
-pub returns-in_default-head_of : goal.returns-in_default-head_of
-returns-in_default-head_of c = search (join_no_b, rules)
+pub returns-in_err-head_b : goal.returns-in_err-head_b
+returns-in_err-head_b c =
+    let e = join_no_b c.args.a.now c.args.b.now _ c.head_of-2.ensures c.in_err-head_b.ensures.ok_part _ c.in_err-head_b.ensures.value c.args.output.now in search rules
 
-pub count_both-requires : goal.count_both-requires
-count_both-requires c = (search (head_is, rules), search (head_is, rules))
+pub returns-in_err-found : goal.returns-in_err-found
+returns-in_err-found c =
+    let e = join_cannot _ _ c.count_both.ensures c.in_err-found.ensures.ok_part _ c.in_err-found.ensures.value c.args.output.now in search rules
 
-pub returns-in_default-count_both : goal.returns-in_default-count_both
-returns-in_default-count_both c = search (join_cannot, rules)
+pub returns-then-output-found : goal.returns-then-output-found
+returns-then-output-found c =
+    join_short (ready c.head_of.ensures c.in_ok-head_a.ensures.ok_part c.head_of-2.ensures c.in_ok-head_b.ensures.ok_part c.count_both.ensures c.in_ok-found.ensures.ok_part) _ c.if-output-found.true
 
-pub returns-then-output-size : goal.returns-then-output-size
-returns-then-output-size c = search (join_short _ _ _ _ _ _ c.head_of.ensures c.in-Counts.is _ _ _ _ c.head_of-2.ensures c.in-Counts-head_of.is _ _ _ _ c.count_both.ensures c.in-Joined.is, join_least _ _ _ _ _ _ c.head_of.ensures c.in-Counts.is _ _ _ _ c.head_of-2.ensures c.in-Counts-head_of.is _ _ _ _ c.count_both.ensures c.in-Joined.is, rules)
+pub overflow_sub-found : goal.overflow_sub-found
+overflow_sub-found c =
+    join_two (ready c.head_of.ensures c.in_ok-head_a.ensures.ok_part c.head_of-2.ensures c.in_ok-head_b.ensures.ok_part c.count_both.ensures c.in_ok-found.ensures.ok_part)
 
-pub overflow_sub-size : goal.overflow_sub-size
-overflow_sub-size c = search (join_two _ _ _ _ _ _ c.head_of.ensures c.in-Counts.is _ _ _ _ c.head_of-2.ensures c.in-Counts-head_of.is _ _ _ _ c.count_both.ensures c.in-Joined.is, rules)
-
-pub overflow_cast-size : goal.overflow_cast-size
-overflow_cast-size c = search (join_length_fits _ _ _ _ _ _ c.head_of.ensures c.in-Counts.is _ _ _ _ c.head_of-2.ensures c.in-Counts-head_of.is _ _ _ _ c.count_both.ensures c.in-Joined.is, rules)
+pub overflow_cast-found : goal.overflow_cast-found
+overflow_cast-found c =
+    search (join_length_fits (ready c.head_of.ensures c.in_ok-head_a.ensures.ok_part c.head_of-2.ensures c.in_ok-head_b.ensures.ok_part c.count_both.ensures c.in_ok-found.ensures.ok_part), rules)
 
 pub word4-requires : goal.word4-requires
-word4-requires c = search (join_snapshot _ _ _ _ _ _ c.head_of.ensures c.in-Counts.is _ _ _ _ c.head_of-2.ensures c.in-Counts-head_of.is _ _ _ _ c.count_both.ensures c.in-Joined.is, rules)
+word4-requires c =
+    join_snapshot (ready c.head_of.ensures c.in_ok-head_a.ensures.ok_part c.head_of-2.ensures c.in_ok-head_b.ensures.ok_part c.count_both.ensures c.in_ok-found.ensures.ok_part)
 
-pub overflow_cast-points : goal.overflow_cast-points
-overflow_cast-points c = search (join_points_fit _ _ _ _ _ _ c.head_of.ensures c.in-Counts.is _ _ _ _ c.head_of-2.ensures c.in-Counts-head_of.is _ _ _ _ c.count_both.ensures c.in-Joined.is, rules)
+pub overflow_cast-found-2 : goal.overflow_cast-found-2
+overflow_cast-found-2 c =
+    search (join_points_fit (ready c.head_of.ensures c.in_ok-head_a.ensures.ok_part c.head_of-2.ensures c.in_ok-head_b.ensures.ok_part c.count_both.ensures c.in_ok-found.ensures.ok_part), rules)
 
-pub overflow_cast-scans : goal.overflow_cast-scans
-overflow_cast-scans c = search (join_scans_fit _ _ _ _ _ _ c.head_of.ensures c.in-Counts.is _ _ _ _ c.head_of-2.ensures c.in-Counts-head_of.is _ _ _ _ c.count_both.ensures c.in-Joined.is, rules)
+pub overflow_cast-found-3 : goal.overflow_cast-found-3
+overflow_cast-found-3 c =
+    search (join_scans_fit (ready c.head_of.ensures c.in_ok-head_a.ensures.ok_part c.head_of-2.ensures c.in_ok-head_b.ensures.ok_part c.count_both.ensures c.in_ok-found.ensures.ok_part), rules)
 
 pub put_head-requires : goal.put_head-requires
-put_head-requires c = record { version_in_bounds = (search (join_head_room _ _ _ _ _ _ c.head_of.ensures c.in-Counts.is _ _ _ _ c.head_of-2.ensures c.in-Counts-head_of.is _ _ _ _ c.count_both.ensures c.in-Joined.is _ c.version_for-version.ensures, rules), join_length _ _ _ _ _ _ c.head_of.ensures c.in-Counts.is _ _ _ _ c.head_of-2.ensures c.in-Counts-head_of.is _ _ _ _ c.count_both.ensures c.in-Joined.is); le_version = (join_version_least _ _ _ _ _ _ c.head_of.ensures c.in-Counts.is _ _ _ _ c.head_of-2.ensures c.in-Counts-head_of.is _ _ _ _ c.count_both.ensures c.in-Joined.is _ c.version_for-version.ensures, join_version_most _ _ _ _ _ _ c.head_of.ensures c.in-Counts.is _ _ _ _ c.head_of-2.ensures c.in-Counts-head_of.is _ _ _ _ c.count_both.ensures c.in-Joined.is _ c.version_for-version.ensures, join_points_width _ _ _ _ _ _ c.head_of.ensures c.in-Counts.is _ _ _ _ c.head_of-2.ensures c.in-Counts-head_of.is _ _ _ _ c.count_both.ensures c.in-Joined.is _ c.version_for-version.ensures, join_scans_width _ _ _ _ _ _ c.head_of.ensures c.in-Counts.is _ _ _ _ c.head_of-2.ensures c.in-Counts-head_of.is _ _ _ _ c.count_both.ensures c.in-Joined.is _ c.version_for-version.ensures) }
+put_head-requires c =
+    let r = ready c.head_of.ensures c.in_ok-head_a.ensures.ok_part c.head_of-2.ensures c.in_ok-head_b.ensures.ok_part c.count_both.ensures c.in_ok-found.ensures.ok_part in
+    record {
+      version_in_bounds = (join_head_room r _ c.version_for-version.ensures _ c.if-output-found.false, join_length r);
+      le_version = (
+        join_version_least r _ c.version_for-version.ensures,
+        join_version_most r _ c.version_for-version.ensures,
+        join_points_width r _ c.version_for-version.ensures,
+        join_scans_width r _ c.version_for-version.ensures,
+      );
+    }
 
 pub put_joined_points-at-requires : goal.put_joined_points-at-requires
-put_joined_points-at-requires c = record { points_join = join_points _ _ _ _ _ _ c.head_of.ensures c.in-Counts.is _ _ _ _ c.head_of-2.ensures c.in-Counts-head_of.is _ _ _ _ c.count_both.ensures c.in-Joined.is; start_a_in_bounds = (start_within _ _ _ _ (head_is _ _ _ _ _ c.head_of.ensures c.in-Counts.is), start_within _ _ _ _ (head_is _ _ _ _ _ c.head_of-2.ensures c.in-Counts-head_of.is), few_points _ _ _ _ (head_is _ _ _ _ _ c.head_of.ensures c.in-Counts.is), few_points _ _ _ _ (head_is _ _ _ _ _ c.head_of-2.ensures c.in-Counts-head_of.is)); start_b_in_bounds = join_points_room _ _ _ _ _ _ c.head_of.ensures c.in-Counts.is _ _ _ _ c.head_of-2.ensures c.in-Counts-head_of.is _ _ _ _ c.count_both.ensures c.in-Joined.is _ c.version_for-version.ensures _ _ _ c.put_head.ensures c.if-output-size.false _ c.head_size.ensures }
+put_joined_points-at-requires c =
+    let r = ready c.head_of.ensures c.in_ok-head_a.ensures.ok_part c.head_of-2.ensures c.in_ok-head_b.ensures.ok_part c.count_both.ensures c.in_ok-found.ensures.ok_part in
+    record {
+      points_join = join_points r;
+      heads_fit = (join_points_a r, join_points_b r);
+      room = join_points_room r _ c.version_for-version.ensures _ _ _ c.put_head.ensures c.if-output-found.false _ c.head_size.ensures;
+    }
 
 pub put_joined_scans-requires : goal.put_joined_scans-requires
-put_joined_scans-requires c = record { scans_a_in_bounds = (join_scans_a _ _ _ _ _ _ c.head_of.ensures c.in-Counts.is _ _ _ _ c.head_of-2.ensures c.in-Counts-head_of.is _ _ _ _ c.count_both.ensures c.in-Joined.is, join_scans_b _ _ _ _ _ _ c.head_of.ensures c.in-Counts.is _ _ _ _ c.head_of-2.ensures c.in-Counts-head_of.is _ _ _ _ c.count_both.ensures c.in-Joined.is, few_scans _ _ _ _ (head_is _ _ _ _ _ c.head_of.ensures c.in-Counts.is), few_scans _ _ _ _ (head_is _ _ _ _ _ c.head_of-2.ensures c.in-Counts-head_of.is)); both_taken = join_scans _ _ _ _ _ _ c.head_of.ensures c.in-Counts.is _ _ _ _ c.head_of-2.ensures c.in-Counts-head_of.is _ _ _ _ c.count_both.ensures c.in-Joined.is; b_in_bounds = join_scans_room _ _ _ _ _ _ c.head_of.ensures c.in-Counts.is _ _ _ _ c.head_of-2.ensures c.in-Counts-head_of.is _ _ _ _ c.count_both.ensures c.in-Joined.is _ c.version_for-version.ensures _ _ _ c.put_head.ensures c.if-output-size.false _ c.head_size.ensures _ _ c.put_joined_points-at.ensures.value c.put_joined_points-at.ensures.output_after }
+put_joined_scans-requires c =
+    let r = ready c.head_of.ensures c.in_ok-head_a.ensures.ok_part c.head_of-2.ensures c.in_ok-head_b.ensures.ok_part c.count_both.ensures c.in_ok-found.ensures.ok_part in
+    record {
+      heads_fit = (join_scans_a r, join_scans_b r);
+      both_taken = join_scans r;
+      room = join_scans_room r _ c.version_for-version.ensures _ _ _ c.put_head.ensures c.if-output-found.false _ c.head_size.ensures
+          _ _ c.put_joined_points-at.ensures.value c.put_joined_points-at.ensures.output_after;
+    }
 
 pub returns : goal.returns
-returns c = join_whole _ _ _ _ _ _ c.head_of.ensures c.in-Counts.is _ _ _ _ c.head_of-2.ensures c.in-Counts-head_of.is _ _ _ _ c.count_both.ensures c.in-Joined.is _ c.version_for-version.ensures _ _ _ c.put_head.ensures c.if-output-size.false _ c.head_size.ensures _ _ c.put_joined_points-at.ensures.value c.put_joined_points-at.ensures.output_after _ c.put_joined_scans.ensures c.word4.ensures
+returns c =
+    join_whole (ready c.head_of.ensures c.in_ok-head_a.ensures.ok_part c.head_of-2.ensures c.in_ok-head_b.ensures.ok_part c.count_both.ensures c.in_ok-found.ensures.ok_part)
+    _ c.version_for-version.ensures _ _ _ c.put_head.ensures c.if-output-found.false _ c.head_size.ensures
+    _ _ c.put_joined_points-at.ensures.value c.put_joined_points-at.ensures.output_after _ c.put_joined_scans.ensures c.word4.ensures

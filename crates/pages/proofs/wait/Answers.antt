@@ -1,15 +1,23 @@
--- `wait` meets its contract (Waiting.antt).
+-- `wait` meets its contract: each return is a row of R47.
 -- Assumes nothing.
+use Prim.Native.Nat.{◌+◌, ◌-◌}
+use mathlib.Core.Path.{refl}
 use native.Mathlib.Omega.{arith}
-use Rattle.pages.proofs.Waiting.{waits_on, waits_end, waits_torn}
+use borrow.Author.Tests.{eq-eqb, ne_eqb}
+use lib.ListN.{length}
+use Rattle.pages.proofs.Stored.{stored_behind}
 use Rattle.std.proofs.lemmas.Bool.{not_from_false, not_from_true}
 use Rattle.pages.proofs.wait.Goals as goal
 
 pub returns-then-not-over : goal.returns-then-not-over
-returns-then-not-over c = waits_on c.args.carry.now c.args.carried c.args.part.now c.args.over (not_from_false _ c.if-not-over.true) _ c.put_behind.ensures
+returns-then-not-over c m =
+    let k = c.args.carried + length c.args.part.now - c.args.carried in
+    let e = stored_behind c.args.carry.now c.args.carried c.args.part.now k _ (omega arith) c.copy_from_slice.ensures.after c.requires in
+    simp (not_from_false _ c.if-not-over.true) (record { said = c.undecided.ensures; pool = refl; carry_is = e })
 
 pub returns-then-carried-part-eq0 : goal.returns-then-carried-part-eq0
-returns-then-carried-part-eq0 c = waits_end c.args.carry.now c.args.carried c.args.part.now c.args.over (not_from_true _ c.if-not-over.false) (omega arith)
+returns-then-carried-part-eq0 c m =
+    simp (not_from_true _ c.if-not-over.false, eq-eqb _ 0 c.if-carried-part-eq0.true) (record { said = c.undecided-then-carried-part-eq0.ensures; pool = refl; carry_is = refl })
 
 pub returns : goal.returns
-returns c = waits_torn c.args.carry.now c.args.carried c.args.part.now c.args.over (not_from_true _ c.if-not-over.false) c.if-carried-part-eq0.false _ c.refused.ensures
+returns c m = simp (not_from_true _ c.if-not-over.false, ne_eqb _ 0 c.if-carried-part-eq0.false) (record { said = c.refused.ensures; pool = refl; carry_is = refl })

@@ -6,8 +6,5 @@ use Rattle.put.proofs.next_free.Goals as goal
 pub returns-then-i-eq-NO_NODE : goal.returns-then-i-eq-NO_NODE
 returns-then-i-eq-NO_NODE c = next_none _ _ c.if-i-eq-NO_NODE.true
 
-pub read_node-n-requires : goal.read_node-n-requires
-read_node-n-requires c = c.requires c.if-i-eq-NO_NODE.false
-
 pub returns : goal.returns
 returns c = next_some _ _ _ c.if-i-eq-NO_NODE.false c.read_node-n.ensures

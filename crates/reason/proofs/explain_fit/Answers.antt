@@ -1,7 +1,11 @@
--- `explain_fit` meets its promise: the lists follow the version byte.
+-- `explain_fit` meets its promise: the lists follow the version byte, and have room for such a record.
 -- Assumes nothing.
 use mathlib.Core.Path.{sym, ◌∙◌}
+use Rattle.record.proofs.Rooms.{room_small, room_large}
 use Rattle.reason.proofs.explain_fit.Goals as goal
 
-pub explain_small-requires : goal.explain_small-requires
-explain_small-requires c = record { fit = c.requires; bytes_value = sym c.is_large.ensures ∙ c.if-is_large.false }
+pub explain_by-requires-clause-room_for : goal.explain_by-requires-clause-room_for
+explain_by-requires-clause-room_for c = room_large _
+
+pub explain_by-requires-2-clause-room_for : goal.explain_by-requires-2-clause-room_for
+explain_by-requires-2-clause-room_for c = room_small _ (sym c.is_large.ensures ∙ c.if-is_large.false)

@@ -3,42 +3,57 @@
 use mathlib.Core.Path.{sym}
 use native.Mathlib.Omega.{arith}
 use lib.Seq.{length-take-le}
-use Rattle.meld.proofs.Readings.{read_none, read_some}
+use Rattle.record.specs.Reader.{Lists, lists}
+use Rattle.meld.proofs.Readings.{Got, read_none, read_some}
 use Rattle.reason.proofs.Whole.{used_up, is_malformed, is_explainable, lists_explained}
+use Rattle.reason.proofs.explain_with.Goals.{In-Ok}
 use Rattle.reason.proofs.explain_with.Goals as goal
 
 pub returns-then-read_header-eq-LAST_POSITION : goal.returns-then-read_header-eq-LAST_POSITION
 returns-then-read_header-eq-LAST_POSITION c = used_up _ c.args.bytes.now _ c.read_header.ensures c.if-read_header-eq-LAST_POSITION.true _ c.plain.ensures
 
-pub returns-then-reading : goal.returns-then-reading
-returns-then-reading c = is_malformed _ c.args.bytes.now _ c.read_header.ensures c.requires.fit c.if-read_header-eq-LAST_POSITION.false (read_none _ _ _ _ _ _ _ _ _ _ _ (record { byte = λ i. omega (arith, c.type_inv.bytes i) }) c.requires.room_for _ c.read-reading.ensures c.if-reading.true) _ c.plain-then-reading.ensures
+pub returns-in_default : goal.returns-in_default
+returns-in_default c =
+    is_malformed _ c.args.bytes.now _ c.read_header.ensures c.requires.fit c.if-read_header-eq-LAST_POSITION.false
+    (read_none _ (record { byte = λ i. omega (arith, c.type_inv.bytes i) }) _ _ c.requires.room_for _ c.read.ensures _ c.in_default.is) _ c.plain-in_default.ensures
+
+-- the lists after the reading, and what was read where it is a record
+abbrev lists_read : In-Ok → Lists
+lists_read c = lists c.read.new.kinds c.read.new.keys c.read.new.payloads c.read.new.lows c.read.new.highs
+
+got : (c : In-Ok) → Got c.args.bytes.now (lists_read c) c.in-Ok.reading
+got c = read_some _ (record { byte = λ i. omega (arith, c.type_inv.bytes i) }) _ _ c.requires.room_for _ c.read.ensures _ c.in-Ok.is
 
 pub slice_bounds-explain_lists-end : goal.slice_bounds-explain_lists-end
-slice_bounds-explain_lists-end c = omega (arith, (read_some _ _ _ _ _ _ _ _ _ _ _ (record { byte = λ i. omega (arith, c.type_inv.bytes i) }) c.requires.room_for _ c.read-reading.ensures c.if-reading.false).kinds_inside, c.read-reading.auto.kinds)
+slice_bounds-explain_lists-end c = (got (goal.at.slice_bounds-explain_lists-end c).In-Ok).kinds_inside
 
 pub slice_bounds-explain_lists-end-2 : goal.slice_bounds-explain_lists-end-2
-slice_bounds-explain_lists-end-2 c = sym (length-take-le _ _ (omega (arith, (read_some _ _ _ _ _ _ _ _ _ _ _ (record { byte = λ i. omega (arith, c.type_inv.bytes i) }) c.requires.room_for _ c.read-reading.ensures c.if-reading.false).kinds_inside, c.read-reading.auto.kinds)))
+slice_bounds-explain_lists-end-2 c = sym (length-take-le _ _ (got (goal.at.slice_bounds-explain_lists-end-2 c).In-Ok).kinds_inside)
 
 pub slice_bounds-explain_lists-end-3 : goal.slice_bounds-explain_lists-end-3
-slice_bounds-explain_lists-end-3 c = omega (arith, (read_some _ _ _ _ _ _ _ _ _ _ _ (record { byte = λ i. omega (arith, c.type_inv.bytes i) }) c.requires.room_for _ c.read-reading.ensures c.if-reading.false).keys_inside, c.read-reading.auto.keys)
+slice_bounds-explain_lists-end-3 c = (got (goal.at.slice_bounds-explain_lists-end-3 c).In-Ok).keys_inside
 
 pub slice_bounds-explain_lists-end-4 : goal.slice_bounds-explain_lists-end-4
-slice_bounds-explain_lists-end-4 c = sym (length-take-le _ _ (omega (arith, (read_some _ _ _ _ _ _ _ _ _ _ _ (record { byte = λ i. omega (arith, c.type_inv.bytes i) }) c.requires.room_for _ c.read-reading.ensures c.if-reading.false).keys_inside, c.read-reading.auto.keys)))
+slice_bounds-explain_lists-end-4 c = sym (length-take-le _ _ (got (goal.at.slice_bounds-explain_lists-end-4 c).In-Ok).keys_inside)
 
 pub slice_bounds-explain_lists-end-5 : goal.slice_bounds-explain_lists-end-5
-slice_bounds-explain_lists-end-5 c = omega (arith, (read_some _ _ _ _ _ _ _ _ _ _ _ (record { byte = λ i. omega (arith, c.type_inv.bytes i) }) c.requires.room_for _ c.read-reading.ensures c.if-reading.false).lows_inside, c.read-reading.auto.lows)
+slice_bounds-explain_lists-end-5 c = (got (goal.at.slice_bounds-explain_lists-end-5 c).In-Ok).lows_inside
 
 pub slice_bounds-explain_lists-end-6 : goal.slice_bounds-explain_lists-end-6
-slice_bounds-explain_lists-end-6 c = sym (length-take-le _ _ (omega (arith, (read_some _ _ _ _ _ _ _ _ _ _ _ (record { byte = λ i. omega (arith, c.type_inv.bytes i) }) c.requires.room_for _ c.read-reading.ensures c.if-reading.false).lows_inside, c.read-reading.auto.lows)))
+slice_bounds-explain_lists-end-6 c = sym (length-take-le _ _ (got (goal.at.slice_bounds-explain_lists-end-6 c).In-Ok).lows_inside)
 
 pub slice_bounds-explain_lists-end-7 : goal.slice_bounds-explain_lists-end-7
-slice_bounds-explain_lists-end-7 c = omega (arith, (read_some _ _ _ _ _ _ _ _ _ _ _ (record { byte = λ i. omega (arith, c.type_inv.bytes i) }) c.requires.room_for _ c.read-reading.ensures c.if-reading.false).highs_inside, c.read-reading.auto.highs)
+slice_bounds-explain_lists-end-7 c = (got (goal.at.slice_bounds-explain_lists-end-7 c).In-Ok).highs_inside
 
 pub slice_bounds-explain_lists-end-8 : goal.slice_bounds-explain_lists-end-8
-slice_bounds-explain_lists-end-8 c = sym (length-take-le _ _ (omega (arith, (read_some _ _ _ _ _ _ _ _ _ _ _ (record { byte = λ i. omega (arith, c.type_inv.bytes i) }) c.requires.room_for _ c.read-reading.ensures c.if-reading.false).highs_inside, c.read-reading.auto.highs)))
+slice_bounds-explain_lists-end-8 c = sym (length-take-le _ _ (got (goal.at.slice_bounds-explain_lists-end-8 c).In-Ok).highs_inside)
 
 pub explain_lists-requires : goal.explain_lists-requires
-explain_lists-requires c = let g = (read_some _ _ _ _ _ _ _ _ _ _ _ (record { byte = λ i. omega (arith, c.type_inv.bytes i) }) c.requires.room_for _ c.read-reading.ensures c.if-reading.false) in is_explainable _ c.args.bytes.now _ c.read_header.ensures c.requires.fit c.if-read_header-eq-LAST_POSITION.false _ _ _ _ _ _ g.r g.names
+explain_lists-requires c =
+    let g = got (goal.at.explain_lists-requires c).In-Ok in
+    is_explainable _ c.args.bytes.now _ c.read_header.ensures c.requires.fit c.if-read_header-eq-LAST_POSITION.false _ _ _ _ _ _ g.r g.names
 
 pub returns : goal.returns
-returns c = let g = (read_some _ _ _ _ _ _ _ _ _ _ _ (record { byte = λ i. omega (arith, c.type_inv.bytes i) }) c.requires.room_for _ c.read-reading.ensures c.if-reading.false) in lists_explained _ c.args.bytes.now _ c.read_header.ensures c.requires.fit c.if-read_header-eq-LAST_POSITION.false _ _ _ _ _ _ g.r g.names g.is _ c.explain_lists.ensures
+returns c =
+    let g = got (goal.at.returns c).In-Ok in
+    lists_explained _ c.args.bytes.now _ c.read_header.ensures c.requires.fit c.if-read_header-eq-LAST_POSITION.false _ _ _ _ _ _ g.r g.names g.is _ c.explain_lists.ensures

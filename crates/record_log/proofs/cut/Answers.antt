@@ -9,8 +9,8 @@ use Rattle.record_log.proofs.cut.Goals as goal
 pub returns-then-place-log : goal.returns-then-place-log
 returns-then-place-log c = is_end _ _ (omega arith)
 
-pub returns-then-log-place : goal.returns-then-log-place
-returns-then-log-place c = is_short _ _ (λ e. omega arith) (omega arith)
+pub returns-in_default : goal.returns-in_default
+returns-in_default c = is_short _ _ (λ e. omega arith) (omega arith)
 
 pub returns-then-left-lt2 : goal.returns-then-left-lt2
 returns-then-left-lt2 c = is_short _ _ (λ e. omega arith) (omega arith)

@@ -1,8 +1,8 @@
--- What the code computes of the bytes is the number.
+-- The two bytes are the number's digits.
 -- Assumes nothing.
-use Rattle.std.proofs.Common.{rules}
+use mathlib.Core.Path.{refl, ◌∙◌}
 use Rattle.words.proofs.Digits.{word_2}
 use Rattle.words.proofs.word2.Goals as goal
 
 pub returns : goal.returns
-returns c = search (word_2, rules)
+returns c = c.from.ensures ∙ c.from_be_bytes.ensures ∙ word_2 _ _ _ _ refl refl

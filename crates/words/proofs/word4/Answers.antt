@@ -1,7 +1,8 @@
--- The four bytes read from the last byte's side, turned, are the number.
+-- The four bytes are the number's digits.
 -- Assumes nothing.
-use Rattle.words.proofs.Digits.{word_4_turned}
+use mathlib.Core.Path.{refl, ◌∙◌}
+use Rattle.words.proofs.Digits.{word_4}
 use Rattle.words.proofs.word4.Goals as goal
 
 pub returns : goal.returns
-returns c = word_4_turned _ _ _ _ _ _ _ c.wide.ensures c.wide-2.ensures c.wide-3.ensures c.wide-4.ensures c.turned.ensures
+returns c = c.from_be_bytes.ensures ∙ word_4 _ _ _ _ _ _ refl refl refl refl

@@ -1,11 +1,9 @@
--- `asking::seek` meets its contract. The invariant: the records passed so far (Seeks.antt). The measure is how many are left to pass.
+-- `asking::seek` meets its contract. The invariant: the records passed so far, and no more bytes are held than the window has.
 -- Assumes nothing.
-use Rattle.std.proofs.Common.{◌-◌}
-use Rattle.asking.proofs.Seeks.{SoFar}
+use Rattle.std.proofs.Common.{ℕ, ◌≤◌, List, length}
+use Rattle.asking.specs.Seeking.{Passed}
 use Rattle.asking.proofs.seeking.seek.Given as goal
 
 abbrev pub invariant-loop-records : goal.invariant-loop-records
-invariant-loop-records g l = SoFar l.initial.pool l.initial.window l.before l.records l.held l.pool l.window
-
-abbrev pub decreases-loop-records : goal.decreases-loop-records
-decreases-loop-records g l = l.before - l.records
+invariant-loop-records g l =
+    record { passed : (brought : List ℕ) × Passed l.initial.pool l.initial.window brought l.records l.held l.pool l.window; inside : l.held ≤ length l.window }

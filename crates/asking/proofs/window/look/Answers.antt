@@ -1,11 +1,12 @@
--- `asking::look` meets its contract: no more bytes are held than the window has.
+-- `asking::look` meets its contract: a record that was found is held.
 -- Assumes nothing.
-use Rattle.std.proofs.Common.{sym, arith, length-take-le, rules}
-use Rattle.stream.proofs.Telling.{filled_front}
+use Rattle.std.proofs.Common.{take, sym, arith, length-take-le}
+use Rattle.record_log.proofs.Told.{cut_case}
+use Rattle.record_log.proofs.Stands.{record_tells}
 use Rattle.asking.proofs.window.look.Goals as goal
 
-pub slice_bounds-cut-end : goal.slice_bounds-cut-end
-slice_bounds-cut-end g c = omega (arith, (filled_front _ _ _ _ (search rules) c.fill-filled.ensures.filled).inside)
-
-pub slice_bounds-cut-end-2 : goal.slice_bounds-cut-end-2
-slice_bounds-cut-end-2 g c = sym (length-take-le _ _ (omega (arith, (filled_front _ _ _ _ (search rules) c.fill-filled.ensures.filled).inside)))
+pub returns-in-Record-clause-within : goal.returns-in-Record-clause-within
+returns-in-Record-clause-within g c =
+    let held = c.fill-filled.result.held in
+    let filled = c.fill-filled.new.buffer in
+    (omega (arith, (record_tells (take held filled) 0 c.in-Record.next (sym (cut_case _ 0 _ c.in-Record.ensures))).inside, length-take-le held filled c.fill-filled.ensures.within), c.fill-filled.ensures.within)

@@ -1,21 +1,8 @@
 -- `commit::apply` meets its promise. The invariant: storing the rest from the present arrangement gives the whole (Turns.antt).
 use mathlib.Core.Path.{refl}
-use native.Mathlib.Omega.{arith}
-use Rattle.commit.proofs.Turns.{starts, passed_over, is_put, is_delete, has_room, moved_on_lem, loop_ends}
+use Rattle.commit.proofs.Turns.{passed_over, is_put, is_delete, has_room, moved_on_lem, loop_ends}
 use Rattle.commit.proofs.apply.apply.Goals as goal
 use Rattle.commit.proofs.apply.apply.Goals.{in-Put, in-Put-2}
-
-pub loop-i-init : goal.loop-i-init
-loop-i-init c = starts _ _ _ _
-
-pub bounds-kinds-i : goal.bounds-kinds-i
-bounds-kinds-i c = omega (arith, c.requires.as_many_keys)
-
-pub offset_bounds-payloads-i : goal.offset_bounds-payloads-i
-offset_bounds-payloads-i c = record { fits = omega (arith, c.well_formed.1.1.1.0, c.requires.as_many_keys, c.requires.as_many_payloads) }
-
-pub bounds-payloads-i : goal.bounds-payloads-i
-bounds-payloads-i c = omega (arith, c.requires.as_many_keys, c.requires.as_many_payloads)
 
 pub loop-i-preserved-in_default : goal.loop-i-preserved-in_default
 loop-i-preserved-in_default c = passed_over _ _ _ _ _ _ c.requires c.loop-i.invariant c.loop-i-test.true _ _ c.point_of-point.ensures c.in_default.is

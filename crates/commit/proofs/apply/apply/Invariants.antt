@@ -1,11 +1,6 @@
 -- `commit::apply` meets its promise. The invariant: storing the rest from the present arrangement gives the whole (Turns.antt).
-use Prim.Native.Nat.{◌-◌}
-use lib.ListN.{length}
 use Rattle.commit.proofs.Turns.{Going}
 use Rattle.commit.proofs.apply.apply.Given as goal
 
 abbrev pub invariant-loop-i : goal.invariant-loop-i
 invariant-loop-i l = Going l.initial.pool l.kinds l.keys l.payloads l.pool l.i
-
-abbrev pub decreases-loop-i : goal.decreases-loop-i
-decreases-loop-i l = length l.keys - l.i

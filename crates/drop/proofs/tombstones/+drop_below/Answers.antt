@@ -1,44 +1,33 @@
 -- `drop_below` calls itself on the children of a node. The measure is the node's height.
 -- Assumes nothing.
-use borrow.Author.Rules.{rules}
-use Rattle.drop.proofs.Places.{ready_room, ready_asks, keep_young_tree, keep_live, drop_tombstone, asks_left, asks_right, asks_free, asks_mend, drop_left, drop_right, drop_none_of_two}
+use mathlib.Core.Path.{sym, ◌∙◌}
+use Rattle.drop.proofs.Places.{keep_young_tree, keep_live, drop_tombstone, asks_left, asks_right, asks_free, asks_mend, drop_side, drop_none_of_two}
 use Rattle.drop.proofs.tombstones.+drop_below.Goals as goal
-
-pub read_node-n-requires : goal.read_node-n-requires
-read_node-n-requires t c = search (ready_room, rules)
+use Rattle.drop.proofs.tombstones.+drop_below.Goals.{then-limit-n-via-then-limit-n, then-limit-n-via-else-limit-n+then-n-eq1}
 
 pub returns-then-limit-n : goal.returns-then-limit-n
-returns-then-limit-n t c = search (keep_young_tree, rules)
-
-pub returns-then-n-eq1 : goal.returns-then-n-eq1
-returns-then-n-eq1 t c = search (keep_live, rules)
-
-pub free_node-requires : goal.free_node-requires
-free_node-requires t c = search (ready_asks, rules)
+returns-then-limit-n t c = elim c.then-limit-n.branch [
+  | then-limit-n-via-then-limit-n w ↦ keep_young_tree _ _ _ _ _ c.read_node-n.ensures w.if-limit-n.true
+  | then-limit-n-via-else-limit-n+then-n-eq1 w ↦ keep_live _ _ _ _ _ c.read_node-n.ensures w.if-n-eq1.true
+]
 
 pub returns-then-n-eq2 : goal.returns-then-n-eq2
-returns-then-n-eq2 t c = search (drop_tombstone, rules)
+returns-then-n-eq2 t c = drop_tombstone _ _ _ _ _ c.read_node-n.ensures c.if-limit-n.false c.if-n-eq2.true _ _ c.free_node.ensures
 
 pub drop_below-a-requires : goal.drop_below-a-requires
-drop_below-a-requires t c = asks_left _ _ c.args.limit _ _ _ c.read_node-n.ensures c.if-n-eq1.false c.if-n-eq2.false c.requires t c.decreases
+drop_below-a-requires t c = asks_left _ _ c.args.limit _ _ c.read_node-n.ensures c.if-n-eq1.false c.if-n-eq2.false c.requires t c.decreases
 
 pub drop_below-b-requires : goal.drop_below-b-requires
-drop_below-b-requires t c = asks_right _ _ _ _ _ _ c.read_node-n.ensures c.if-n-eq1.false c.if-n-eq2.false _ _ _ _ c.drop_below-a.ensures c.requires t c.decreases
-
-pub free_node-requires-then-a : goal.free_node-requires-then-a
-free_node-requires-then-a t c = asks_free _ _ _ _ _ _ c.read_node-n.ensures c.if-n-eq1.false c.if-n-eq2.false _ _ _ _ c.drop_below-a.ensures _ _ _ _ c.drop_below-b.ensures c.requires
-
-pub returns-then-a : goal.returns-then-a
-returns-then-a t c = drop_left _ _ _ _ _ _ c.read_node-n.ensures c.if-n-eq1.false c.if-n-eq2.false _ _ _ _ c.drop_below-a.ensures _ _ _ _ c.drop_below-b.ensures c.if-a.true _ _ _ _ c.free_node-then-a.ensures
-
-pub free_node-requires-then-b : goal.free_node-requires-then-b
-free_node-requires-then-b t c = asks_free _ _ _ _ _ _ c.read_node-n.ensures c.if-n-eq1.false c.if-n-eq2.false _ _ _ _ c.drop_below-a.ensures _ _ _ _ c.drop_below-b.ensures c.requires
-
-pub returns-then-b : goal.returns-then-b
-returns-then-b t c = drop_right _ _ _ _ _ _ c.read_node-n.ensures c.if-n-eq1.false c.if-n-eq2.false _ _ _ _ c.drop_below-a.ensures _ _ _ _ c.drop_below-b.ensures c.if-a.false c.if-b.true _ _ _ _ c.free_node-then-b.ensures
+drop_below-b-requires t c = asks_right _ _ _ _ _ c.read_node-n.ensures c.if-n-eq1.false c.if-n-eq2.false _ _ c.drop_below-a.ensures c.requires t c.decreases
 
 pub mend-requires : goal.mend-requires
-mend-requires t c = asks_mend _ _ _ _ _ _ c.read_node-n.ensures c.if-n-eq1.false c.if-n-eq2.false _ _ _ _ c.drop_below-a.ensures _ _ _ _ c.drop_below-b.ensures c.requires c.if-a.false c.if-b.false
+mend-requires t c = asks_mend _ _ _ _ _ c.read_node-n.ensures c.if-n-eq1.false c.if-n-eq2.false _ _ c.drop_below-a.ensures _ _ c.drop_below-b.ensures c.requires _ _ (sym c.in-Some.ensures)
 
 pub returns : goal.returns
-returns t c = drop_none_of_two _ _ _ _ _ _ c.read_node-n.ensures c.if-n-eq1.false c.if-n-eq2.false _ _ _ _ c.drop_below-a.ensures _ _ _ _ c.drop_below-b.ensures c.if-a.false c.if-b.false _ c.mend.ensures
+returns t c = drop_none_of_two _ _ _ _ _ c.read_node-n.ensures c.if-n-eq1.false c.if-n-eq2.false _ _ c.drop_below-a.ensures _ _ c.drop_below-b.ensures _ _ (sym c.in-Some.ensures) _ c.mend.ensures
+
+pub free_node-requires-in_default : goal.free_node-requires-in_default
+free_node-requires-in_default t c = asks_free _ _ _ _ _ c.read_node-n.ensures c.if-n-eq1.false c.if-n-eq2.false _ _ c.drop_below-a.ensures _ _ c.drop_below-b.ensures c.requires
+
+pub returns-in_default : goal.returns-in_default
+returns-in_default t c = drop_side _ _ _ _ _ c.read_node-n.ensures c.if-n-eq1.false c.if-n-eq2.false _ _ c.drop_below-a.ensures _ _ c.drop_below-b.ensures (sym c.zip.ensures ∙ c.in_default.is) _ c.or.ensures _ _ c.free_node-in_default.ensures

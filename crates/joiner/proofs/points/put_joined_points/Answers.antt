@@ -1,21 +1,26 @@
 -- `put_joined_points` meets its contract. The loop's invariant: all the stores on the output as it was are the stores that are left on the output as it is.
 -- The measure is how many points are left of both records. Assumes nothing.
-use Rattle.writer.proofs.StoreLaws.{turn_same}
-use Rattle.joiner.proofs.PointTurns.{turn_within_a, turn_within_b, turn_fewer, turn_left, put_no, put_joins, put_room, put_place, put_bytes, put_done_place, put_done}
-use borrow.Author.Rules.{rules}
+use Rattle.joiner.proofs.PointTurns.{turn_within_a, turn_within_b, turn_left, put_joins, put_room, put_place, put_bytes, put_done_place, put_done}
 use Rattle.joiner.proofs.points.put_joined_points.Goals as goal
 
-pub returns-in_default : goal.returns-in_default
-returns-in_default c = absurd (search (put_no, rules))
-
 pub put_point-at-requires : goal.put_point-at-requires
-put_point-at-requires c = search (put_room, rules)
+put_point-at-requires c =
+    put_room _ _ _ _ _ _ _ c.take_point.ensures _ c.unwrap-point.ensures c.loop-left_a.invariant.3 _ _ _ c.kind.ensures c.key.ensures c.payload.ensures
+    _ _ _ _ c.loop-left_a.invariant.4 c.requires.room c.loop-left_a.auto.output
 
-pub loop-rest_a-smaller : goal.loop-rest_a-smaller
-loop-rest_a-smaller c = search (turn_fewer, rules)
-
-pub loop-rest_a-preserved : goal.loop-rest_a-preserved
-loop-rest_a-preserved c = (search (turn_within_a, rules), search (turn_within_b, rules), search (turn_left, rules), search (put_joins, rules), search (turn_same, rules), search (put_place, rules), search (put_bytes, rules))
+pub loop-left_a-preserved : goal.loop-left_a-preserved
+loop-left_a-preserved c = (
+  turn_within_a _ _ _ _ _ _ _ c.take_point.ensures _ c.unwrap-point.ensures,
+  turn_within_b _ _ _ _ _ _ _ c.take_point.ensures _ c.unwrap-point.ensures,
+  turn_left _ _ _ _ _ _ _ c.take_point.ensures _ c.unwrap-point.ensures _ c.loop-left_a.invariant.2,
+  put_joins _ _ _ _ _ _ _ c.take_point.ensures _ c.unwrap-point.ensures c.loop-left_a.invariant.3,
+  put_place _ _ _ _ _ _ _ c.take_point.ensures _ c.unwrap-point.ensures c.loop-left_a.invariant.3 _ _ _ c.kind.ensures c.key.ensures c.payload.ensures _ _ _ c.loop-left_a.invariant.4 c.put_point-at.ensures.value,
+  put_bytes _ _ _ _ _ _ _ c.take_point.ensures _ c.unwrap-point.ensures c.loop-left_a.invariant.3 _ _ _ c.kind.ensures c.key.ensures c.payload.ensures
+      _ _ _ _ _ c.loop-left_a.invariant.5 c.put_point-at.ensures.output_after c.put_point-at.ensures.value,
+)
 
 pub returns : goal.returns
-returns c = record { value = search (put_done_place, rules); output_after = search (put_done, rules) }
+returns c = record {
+  value = put_done_place _ _ _ _ c.loop-left_a-test.false _ _ c.loop-left_a.invariant.4;
+  output_after = put_done _ _ _ _ c.loop-left_a-test.false _ _ _ c.loop-left_a.invariant.5;
+}

@@ -2,16 +2,19 @@
 -- are as many as there are in all. The measure is how many scans are left. Assumes nothing.
 use Prim.Native.Nat.{◌+◌, ◌≤◌}
 use mathlib.Core.Path.{◌≡◌}
-use Rattle.joiner.specs.ScanSteps.{last_run, scans_count}
+use lib.ListN.{length}
+use Rattle.record.specs.Parse.{scan_items}
+use Rattle.joiner.specs.Left.{run_left}
+use Rattle.joiner.specs.ScanSteps.{all_scans, scans_count}
 use Rattle.joiner.proofs.ScanTurns.{Held, still_count}
 use Rattle.joiner.proofs.scans.count_scans.Given as goal
 
-abbrev pub invariant-loop-rest_a : goal.invariant-loop-rest_a
-invariant-loop-rest_a l =
-    (l.rest_a ≤ l.scans_a) × (l.rest_b ≤ l.scans_b) × (l.past ≤ 4294967296)
-    × (l.scans + (l.rest_a + l.rest_b) ≤ l.scans_a + l.scans_b)
-    × Held l.low l.past (last_run l.from_a l.rest_a l.a) (last_run l.from_b l.rest_b l.b)
-    × (scans_count (last_run 0 l.scans_a l.a) (last_run 0 l.scans_b l.b) ≡ still_count l.scans l.low l.past (last_run l.from_a l.rest_a l.a) (last_run l.from_b l.rest_b l.b))
+abbrev pub invariant-loop-left_a : goal.invariant-loop-left_a
+invariant-loop-left_a l =
+    (l.left_a.at ≤ length l.a) × (l.left_b.at ≤ length l.b)
+    × (l.scans + (l.left_a.count + l.left_b.count) ≤ l.fn.head_a.scans + l.fn.head_b.scans)
+    × Held l.held (run_left scan_items l.a l.left_a) (run_left scan_items l.b l.left_b)
+    × (scans_count (all_scans l.a l.fn.head_a) (all_scans l.b l.fn.head_b) ≡ still_count l.scans l.held (run_left scan_items l.a l.left_a) (run_left scan_items l.b l.left_b))
 
-abbrev pub decreases-loop-rest_a : goal.decreases-loop-rest_a
-decreases-loop-rest_a l = l.rest_a + l.rest_b
+abbrev pub decreases-loop-left_a : goal.decreases-loop-left_a
+decreases-loop-left_a l = l.left_a.count + l.left_b.count

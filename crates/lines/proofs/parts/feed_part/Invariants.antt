@@ -1,8 +1,8 @@
 -- `lines::feed_part` meets its contract. The invariant: the calls so far (Calling.antt, which has a law for each turn and return), and pool and carry
 -- keep their lengths. The measure is what is left of the part.
 -- Assumes nothing.
-use Rattle.std.proofs.Common.{◌≡◌, ◌-◌, length, refl, arith, rules}
-use Rattle.lines.proofs.Calling.{SoFar, begins, within, gone_on, stopped, ends}
+use Rattle.std.proofs.Common.{◌≡◌, ◌-◌, length}
+use Rattle.lines.proofs.Calling.{SoFar}
 use Rattle.lines.proofs.parts.feed_part.Given as goal
 
 abbrev pub invariant-loop-place : goal.invariant-loop-place

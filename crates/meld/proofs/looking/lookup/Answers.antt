@@ -1,13 +1,7 @@
 -- `meld::lookup` meets its promise: the check decides whether there is a state, and then one descent tells (Lookups.antt).
-use Rattle.meld.proofs.Lookups.{now_fit, unfit_lookup, fit_lookup}
-use Rattle.std.proofs.lemmas.Bool.{not_from_false, not_from_true}
+use Rattle.meld.proofs.Lookups.{fit_lookup}
+use Rattle.std.proofs.lemmas.Bool.{not_from_true}
 use Rattle.meld.proofs.looking.lookup.Goals as goal
 
-pub returns-then-not-fit : goal.returns-then-not-fit
-returns-then-not-fit c = unfit_lookup _ _ _ c.fit.ensures (not_from_false _ c.if-not-fit.true)
-
-pub find-requires : goal.find-requires
-find-requires c = now_fit _ _ c.fit.ensures (not_from_true _ c.if-not-fit.false)
-
 pub returns : goal.returns
-returns c = fit_lookup _ _ _ c.fit.ensures (not_from_true _ c.if-not-fit.false) _ c.find.ensures _ c.seen.ensures
+returns c = fit_lookup _ _ _ c.fit.ensures (not_from_true _ c.if-not-fit.false) _ c.find.ensures _ c.from.ensures

@@ -3,8 +3,8 @@
 use Rattle.put.proofs.Covering.{covered_below, covered_above}
 use Rattle.put.proofs.tree.covers.Goals as goal
 
-pub returns-then-key-low : goal.returns-then-key-low
-returns-then-key-low c = covered_below _ _ _ c.if-key-low.true
+pub returns-then-low-key : goal.returns-then-low-key
+returns-then-low-key c = covered_above _ _ _ _ c.if-low-key.true c.above.ensures
 
-pub returns : goal.returns
-returns c = covered_above _ _ _ _ c.if-key-low.false c.above.ensures
+pub returns-else-low-key : goal.returns-else-low-key
+returns-else-low-key c = covered_below _ _ _ c.if-low-key.false

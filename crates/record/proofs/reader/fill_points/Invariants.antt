@@ -1,5 +1,5 @@
 -- `fill_points` meets its contract. The loop's invariant: all the stores on the lists as they were are the stores that are left on the lists as they are.
--- The measure is how many points are left. Assumes nothing.
+-- Assumes nothing.
 use Prim.Native.Nat.{◌-◌, ◌≤◌}
 use mathlib.Core.Path.{◌≡◌}
 use mathlib.Core.Bool.{true}
@@ -11,12 +11,9 @@ use Rattle.record.specs.Parse.{parse_points, is_took, place_of, list_of}
 use Rattle.record.proofs.reader.fill_points.Given as goal
 
 abbrev pub invariant-loop-i : goal.invariant-loop-i
-invariant-loop-i l = (l.i ≤ l.count) × (l.at ≤ length l.bytes) × (length l.kinds ≡ length l.initial.kinds) × (length l.keys ≡ length l.initial.keys) × (length l.payloads ≡ length l.initial.payloads)
+invariant-loop-i l = (l.at ≤ length l.bytes)
     × (is_took (parse_points (l.count - l.i) l.low l.bytes l.at) ≡ true)
     × (place_of (parse_points l.count 0 l.bytes l.start) ≡ place_of (parse_points (l.count - l.i) l.low l.bytes l.at))
     × (sets l.initial.kinds 0 (map kind_of (list_of (parse_points l.count 0 l.bytes l.start))) ≡ sets l.kinds l.i (map kind_of (list_of (parse_points (l.count - l.i) l.low l.bytes l.at))))
     × (sets l.initial.keys 0 (map key_of (list_of (parse_points l.count 0 l.bytes l.start))) ≡ sets l.keys l.i (map key_of (list_of (parse_points (l.count - l.i) l.low l.bytes l.at))))
     × (sets l.initial.payloads 0 (map payload_of (list_of (parse_points l.count 0 l.bytes l.start))) ≡ sets l.payloads l.i (map payload_of (list_of (parse_points (l.count - l.i) l.low l.bytes l.at))))
-
-abbrev pub decreases-loop-i : goal.decreases-loop-i
-decreases-loop-i l = l.count - l.i

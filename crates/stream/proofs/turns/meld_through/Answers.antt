@@ -1,25 +1,26 @@
--- `stream::meld_through` meets its contract. The invariant: the turns that were made (Turning.antt), and what is lent keeps its length.
--- The measure is how many turns are left to make.
+-- One law for each way in which a turn goes on or ends (Turning.antt).
 -- Assumes nothing.
-use mathlib.Core.Path.{◌≡◌, refl}
-use mathlib.Core.Logic.{inl, inr}
-use borrow.Author.Rules.{rules}
-use lib.ListN.{length}
-use Rattle.stream.proofs.Turning.{Turned, turned_none, turned_on, ended_by, streamed_stops, streamed_unread, streamed_over}
+use Rattle.std.proofs.Common.{refl, arith, rules}
+use Rattle.stream.proofs.Turning.{over_at, turned_none, used_up, turn_stops, turn_unread, turn_over, turn_on}
 use Rattle.stream.proofs.turns.meld_through.Goals as goal
-use Rattle.stream.proofs.turns.meld_through.Goals.{then-loop-turns-test+else-more, else-loop-turns-test}
+use Rattle.stream.proofs.turns.meld_through.Goals.{else-loop-test, then-loop-test+else-going+else-read+then-read-eq0}
 
-pub loop-turns-init : goal.loop-turns-init
-loop-turns-init g c = (turned_none _ _ _, refl, refl, refl)
+pub loop-init : goal.loop-init
+loop-init g c = (turned_none _ _ _, refl, refl, refl)
 
-pub loop-turns-preserved : goal.loop-turns-preserved
-loop-turns-preserved g c = (turned_on _ _ _ _ _ _ _ _ _ _ _ _ c.loop-turns.invariant.0 c.if-more.true c.loop-turns-test.true _ _ _ _ c.read_on-progress.ensures, search rules, search rules, search rules)
+pub returns-then-going : goal.returns-then-going
+returns-then-going g c = turn_stops c.loop.invariant.0 c.refill-read.ensures c.feed_part-going.ensures c.if-going.true
 
-pub returns-then-stopped : goal.returns-then-stopped
-returns-then-stopped g c = streamed_stops _ _ _ _ _ _ _ _ _ _ _ _ c.loop-turns.invariant.0 (ended_by _ _ (elim c.loop-turns-test.branch [ then-loop-turns-test+else-more w ↦ inl w.if-more.false | else-loop-turns-test w ↦ inr w.loop-turns-test.false ])) (search rules)
+pub returns-then-read : goal.returns-then-read
+returns-then-read g c = turn_unread c.loop.invariant.0 c.refill-read.ensures c.feed_part-going.ensures c.if-going.false c.if-read.true
 
-pub returns-then-failed : goal.returns-then-failed
-returns-then-failed g c = streamed_unread _ _ _ _ _ _ _ _ _ _ _ _ c.loop-turns.invariant.0 (ended_by _ _ (elim c.loop-turns-test.branch [ then-loop-turns-test+else-more w ↦ inl w.if-more.false | else-loop-turns-test w ↦ inr w.loop-turns-test.false ])) (search rules) (search rules)
+pub loop-preserved : goal.loop-preserved
+loop-preserved g c = (turn_on c.loop.invariant.0 c.refill-read.ensures c.feed_part-going.ensures c.if-going.false c.if-read.false c.if-read-eq0.false, search rules, search rules, search rules)
 
 pub returns : goal.returns
-returns g c = streamed_over _ _ _ _ _ _ _ _ _ _ _ _ c.loop-turns.invariant.0 (ended_by _ _ (elim c.loop-turns-test.branch [ then-loop-turns-test+else-more w ↦ inl w.if-more.false | else-loop-turns-test w ↦ inr w.loop-turns-test.false ])) (search rules) (search rules) _ _ _ c.finish.ensures
+returns g c = elim c.loop-test.branch [
+  | else-loop-test w ↦ used_up c.loop.invariant.0 (omega arith) (over_at w.pool-is w.carry-is w.carried-is c.finish.ensures)
+  | then-loop-test+else-going+else-read+then-read-eq0 w ↦
+      turn_over c.loop.invariant.0 w.refill-read.ensures w.feed_part-going.ensures w.if-going.false w.if-read.false w.if-read-eq0.true
+      (over_at w.pool-is w.carry-is w.carried-is c.finish.ensures)
+]

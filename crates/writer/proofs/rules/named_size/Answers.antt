@@ -1,33 +1,23 @@
 -- `named_size` meets its contract: a law of SizeLaws for each return.
 -- Assumes nothing.
+use mathlib.Core.Path.{◌∙◌}
 use native.Mathlib.Omega.{arith}
-use Rattle.writer.proofs.SizeLaws.{size_keys, size_payloads, size_highs, size_points, size_scans, start_most, size_points_bad, size_place, size_whole}
+use Rattle.writer.proofs.SizeLaws.{size_lists, start_most, size_points_bad, size_place, size_whole}
 use borrow.Author.Rules.{rules}
 use Rattle.writer.proofs.rules.named_size.Goals as goal
 
 pub returns-then-keys-kinds : goal.returns-then-keys-kinds
-returns-then-keys-kinds c = search (size_keys, c.if-keys-kinds.true, rules)
-
-pub returns-then-payloads-kinds : goal.returns-then-payloads-kinds
-returns-then-payloads-kinds c = search (size_payloads, c.if-payloads-kinds.true, rules)
-
-pub returns-then-highs-lows : goal.returns-then-highs-lows
-returns-then-highs-lows c = search (size_highs, c.if-highs-lows.true, rules)
-
-pub returns-then-kinds-gt-MAX_POINTS : goal.returns-then-kinds-gt-MAX_POINTS
-returns-then-kinds-gt-MAX_POINTS c = size_points _ _ _ _ _ (omega (arith, c.if-kinds-gt-MAX_POINTS.true))
-
-pub returns-then-lows-gt-MAX_SCANS : goal.returns-then-lows-gt-MAX_SCANS
-returns-then-lows-gt-MAX_SCANS c = size_scans _ _ _ _ _ (omega (arith, c.if-lows-gt-MAX_SCANS.true))
+returns-then-keys-kinds c = size_lists _ _ _ _ _ λ e x h p s. grind arith
 
 pub points_end-requires : goal.points_end-requires
-points_end-requires c = (search rules, search rules, omega (arith, c.if-kinds-gt-MAX_POINTS.false), search (start_most, rules))
+points_end-requires c = (search rules, search rules, search rules, search (start_most, rules))
 
-pub returns-in_default : goal.returns-in_default
-returns-in_default c = search (size_points_bad, rules)
+pub returns-in_err-at : goal.returns-in_err-at
+returns-in_err-at c = c.from_residual.ensures ∙ size_points_bad _ _ _ _ _ _ c.version_for.ensures _ c.head_size-start.ensures _ c.points_end.ensures c.in_err-at.was
 
 pub scans_end-requires : goal.scans_end-requires
 scans_end-requires c = (search rules, search rules, search (size_place, rules))
 
 pub returns : goal.returns
-returns c = search (size_whole, rules)
+returns c =
+    size_whole _ _ _ _ _ _ c.version_for.ensures _ c.head_size-start.ensures _ c.points_end.ensures _ c.in_ok-at.was (search rules) _ c.scans_end.ensures (search rules)

@@ -10,8 +10,8 @@ bounds-output-at c = search (point_first, rules)
 pub put4-requires : goal.put4-requires
 put4-requires c = search (point_key, rules)
 
-pub returns-then-kind-ne2 : goal.returns-then-kind-ne2
-returns-then-kind-ne2 c = record { value = search (other_size, c.if-kind-ne2.true, rules); output_after = search (point_stored_other, c.if-kind-ne2.true, rules) }
+pub returns-then-kind-ne-PUT : goal.returns-then-kind-ne-PUT
+returns-then-kind-ne-PUT c = record { value = search (other_size, c.if-kind-ne-PUT.true, rules); output_after = search (point_stored_other, c.if-kind-ne-PUT.true, rules) }
 
 pub put8-requires : goal.put8-requires
 put8-requires c = search (point_payload, rules)
