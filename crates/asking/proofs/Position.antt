@@ -19,12 +19,13 @@ use Rattle.demands.specs.Runs.{ReadingOn, so_far, Card, is_over}
 use Rattle.demands.proofs.FedOn.{card_fit}
 use Rattle.demands.proofs.Reading.{cut_is, read_first, read_last}
 use Rattle.stream.proofs.Telling.{filled_front}
+use Rattle.reason.specs.declared.told.Explained.{Explained}
 use Rattle.asking.specs.declared.window.Front.{Front}
 use Rattle.asking.specs.declared.window.Stop.{Stop}
 use Rattle.asking.specs.declared.window.Stop.TheVariants as Stops
 use Rattle.asking.specs.declared.telling.Told.{Told}
 use Rattle.asking.specs.declared.telling.Told.TheVariants as Tolds
-use Rattle.asking.specs.Window.{Looked, Shifted}
+use Rattle.asking.specs.Window.{held_now, Looked, Shifted}
 use Rattle.asking.specs.Told.{Tells}
 use Rattle.asking.specs.Seeking.{brought_by, Passed, ToldAt, Sought, log_in, is_record, ExplainedAt, OverAt}
 
@@ -88,8 +89,8 @@ record Rest (m brought : List ℕ) (records held : ℕ) (m' window : List ℕ) :
 
 -- after a look it holds what the reads brought besides
 rest_look : {m brought m' window filled : List ℕ} {records held : ℕ} {seen : Result Front Stop} → Rest m brought records held m' window
-    → (l : Looked held window filled seen) → Rest m (brought ++ brought_by l) records l.held_now m' filled
-rest_look {brought = brought} {window = window} {filled = filled} {held = held} r l =
+    → (l : Looked held window filled seen) → Rest m (brought ++ brought_by l) records (held_now seen) m' filled
+rest_look {brought = brought} {window = window} {filled = filled} {held = held} {seen = seen} r l =
     let f = filled_front held window filled _ r.fits l.filled_up in
     let more : List ℕ = brought_by l in
     record {
@@ -99,8 +100,8 @@ rest_look {brought = brought} {window = window} {filled = filled} {held = held} 
       count = r.count;
       rest =
           drop-append-le r.place brought more r.inside
-          ∙ ap (λ (s : List ℕ). s ++ more) (r.rest ∙ sym f.kept ∙ sym (take-take held l.held_now filled f.least))
-          ∙ take-append-drop held (take l.held_now filled);
+          ∙ ap (λ (s : List ℕ). s ++ more) (r.rest ∙ sym f.kept ∙ sym (take-take held (held_now seen) filled f.least))
+          ∙ take-append-drop held (take (held_now seen) filled);
       inside = omega (arith, r.inside, length-append brought more);
       fits = f.inside;
     }
@@ -138,9 +139,8 @@ module _ {m brought m' filled : List ℕ} {records held : ℕ} (r : Rest m broug
 passed_rest : {m window brought m' window' : List ℕ} {records held : ℕ} → Passed m window brought records held m' window' → Rest m brought records held m' window'
 passed_rest Passed.none_yet =
     record { answers = []; place = 0; read = so_far; count = refl; rest = refl; inside = omega arith; fits = omega arith }
-passed_rest (Passed.one_more {window'' = window''} {left = left} t p) =
-    rest_pass (rest_look (passed_rest t) p.looked) p.front.next (sym (cut_case _ 0 _ p.looked.shows.1)) p.melds
-    (subst (λ (held : ℕ). Shifted p.front.next held p.filled window'' left) p.looked.shows.0 p.shifted)
+passed_rest (Passed.one_more t p) =
+    rest_pass (rest_look (passed_rest t) p.looked) p.front.next (sym (cut_case _ 0 _ p.looked.found)) p.melds p.shifted
 
 -- THE THEOREMS
 
@@ -159,15 +159,15 @@ module _ {N Z : ℕ} {lent m : List ℕ} (made : Created lent N Z committed m) w
       by_seen (Ok front) l t (inl e) = absurd (true≢false (sym e))
       by_seen (Ok front) l t (inr e) =
           let r = rest_look (passed_rest s.passed) l in
-          let q : cut_at (take l.held_now window') 0 ≡ Record front.next = sym (cut_case _ 0 _ l.shows.1) in
+          let q : cut_at (take front.held window') 0 ≡ Record front.next = sym (cut_case _ 0 _ l.found) in
           record {
             pool = record { answers = r.answers; place = r.place; card = card_at r; count = r.count ∙ e };
             next = r.place + front.next;
             found = subst (CutIs (s.brought ++ brought_by l) r.place) (stands r front.next q) (cut_is (s.brought ++ brought_by l) r.place);
             tells = subst (λ (b : List ℕ). Tells m' b told) (handed r front.next q) t.0;
           }
-      by_seen (Err Stops.Unread) l t a = cc
-      by_seen (Err (Stops.Over found)) l t a =
+      by_seen (Err (Stops.Unread held none)) l t a = cc
+      by_seen (Err (Stops.Over held found)) l t a =
           let e : told ≡ Tolds.Over found s.records = cc in
           absurd (true≢false (sym is ∙ ap is_record e))
 
@@ -179,14 +179,14 @@ module _ {N Z : ℕ} {lent m : List ℕ} (made : Created lent N Z committed m) w
       by_seen : (seen : Result Front Stop) (l : Looked s.held s.between window' seen) → ToldAt s.records m' window' seen (Ok (Tolds.Over found records))
           → OverAt N Z (s.brought ++ brought_by l) records found m'
       by_seen (Ok front) l t = absurd t.0
-      by_seen (Err Stops.Unread) l t = cc
-      by_seen (Err (Stops.Over other)) l t =
+      by_seen (Err (Stops.Unread held none)) l t = cc
+      by_seen (Err (Stops.Over held other)) l t =
           let r = rest_look (passed_rest s.passed) l in
           let log : List ℕ = s.brought ++ brought_by l in
           let same : other ≡ found = cc in
-          let over : is_over found = subst is_over same l.shows.1 in
+          let over : is_over found = subst is_over same l.shows in
           let at : cut_at log r.place ≡ found =
-          over_behind log r.place r.inside found over (ap (λ (x : List ℕ). cut_at x 0) r.rest ∙ sym (cut_case _ 0 _ l.shows.0) ∙ same) in
+          over_behind log r.place r.inside found over (ap (λ (x : List ℕ). cut_at x 0) r.rest ∙ sym (cut_case _ 0 _ l.found) ∙ same) in
           let many : s.records ≡ records = cc in
           record {
             answers = r.answers;
@@ -195,10 +195,10 @@ module _ {N Z : ℕ} {lent m : List ℕ} (made : Created lent N Z committed m) w
           }
 
   -- no pool is unfit there
-  pub never_unfit : {before : ℕ} {window m' window' : List ℕ} → Sought before m window m' window' (Ok Tolds.Unfit) → ⊥
-  never_unfit {before} {window} {m'} {window'} s = by_seen s.last.seen s.last.looked s.last.told_at
+  pub never_unfit : {before : ℕ} {window m' window' : List ℕ} {x : Explained} → Sought before m window m' window' (Ok (Tolds.Unfit x)) → ⊥
+  never_unfit {before} {window} {m'} {window'} {x} s = by_seen s.last.seen s.last.looked s.last.told_at
     where
-      by_seen : (seen : Result Front Stop) → Looked s.held s.between window' seen → ToldAt s.records m' window' seen (Ok Tolds.Unfit) → ⊥
-      by_seen (Ok front) l t = t.0 (card_fit (card_at (passed_rest s.passed)))
-      by_seen (Err Stops.Unread) l t = cc
-      by_seen (Err (Stops.Over other)) l t = cc
+      by_seen : (seen : Result Front Stop) → Looked s.held s.between window' seen → ToldAt s.records m' window' seen (Ok (Tolds.Unfit x)) → ⊥
+      by_seen (Ok front) l t = t.0.0 (card_fit (card_at (passed_rest s.passed)))
+      by_seen (Err (Stops.Unread held none)) l t = cc
+      by_seen (Err (Stops.Over held other)) l t = cc

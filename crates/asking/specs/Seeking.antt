@@ -14,12 +14,12 @@ use Rattle.asking.specs.declared.window.Stop.TheVariants as Stops
 use Rattle.asking.specs.declared.telling.Told.{Told}
 use Rattle.asking.specs.declared.telling.Told.TheVariants as Tolds
 use Rattle.asking.specs.declared.telling.Unread.{Unread}
-use Rattle.asking.specs.Window.{Looked, Shifted}
+use Rattle.asking.specs.Window.{held_now, Looked, Shifted}
 use Rattle.asking.specs.Told.{Tells}
 
 -- what the reads of a look have brought: the bytes held behind those held before
 abbrev pub brought_by : {held : ℕ} {window filled : List ℕ} {seen : Result Front Stop} → Looked held window filled seen → List ℕ
-brought_by {held} {filled = filled} looked = drop held (take looked.held_now filled)
+brought_by {held} {filled = filled} {seen = seen} looked = drop held (take (held_now seen) filled)
 
 -- the record at the window's front melded, and the window moved past it
 pub record PassIs (held : ℕ) (m window m' window' : List ℕ) (left : ℕ) : Type 0 where
@@ -37,8 +37,8 @@ PassedBy held m window m' window' (Err stop) = Looked held window window' (Err s
 
 -- what is told where no record is at the window's front, so many records into the log
 abbrev pub stopped_by : Stop → ℕ → Result Told Unread
-stopped_by Stops.Unread records = Err (record {})
-stopped_by (Stops.Over found) records = Ok (Tolds.Over found records)
+stopped_by (Stops.Unread held found) records = Err (record {})
+stopped_by (Stops.Over held found) records = Ok (Tolds.Over found records)
 
 -- records passed one after the other, from nothing held on: all that the reads have brought, how many records, how many bytes are held, and the pool
 -- and the window then
@@ -78,7 +78,7 @@ log_in s = s.brought ++ brought_by s.last.looked
 abbrev pub is_record : Told → Bool
 is_record (Tolds.Limits held n z) = false
 is_record (Tolds.Over found records) = false
-is_record Tolds.Unfit = false
+is_record (Tolds.Unfit x) = false
 is_record (Tolds.Record status x) = true
 
 -- R52: the record that so many records of a log stand before, explained to the pool of a card that has melded these: the pool is the card's, a record

@@ -7,9 +7,9 @@ use Rattle.reason.specs.Reason.{Explains}
 use Rattle.asking.specs.declared.telling.Told.{Told}
 use Rattle.asking.specs.declared.telling.Told.TheVariants.{Limits, Over, Unfit, Record}
 
--- the status of the pool (R45), and the explanation (R50); or that the pool is unfit
+-- the status of the pool (R45), and the explanation (R50); or that the pool is unfit, and the explanation
 abbrev pub Tells : (m bytes : List ℕ) → Told → Type 0
 Tells m bytes (Limits held n z) = ⊥
 Tells m bytes (Over found records) = ⊥
-Tells m bytes Unfit = Fit m → ⊥
+Tells m bytes (Unfit x) = (Fit m → ⊥) × Explains m bytes x
 Tells m bytes (Record status x) = StatusIs m (Ok status) × Explains m bytes x

@@ -1,6 +1,7 @@
 -- The window on a log: at its front are held the bytes from the log's place on (R52).
 -- Assumes nothing: these are definitions.
 use Rattle.std.specs.Prelude.{◌≡◌, ℕ, ◌-◌, Bool, true, false, List, length, take, drop, Result, Ok, Err}
+use Rattle.record_log.specs.declared.found.Cut.{Cut}
 use Rattle.record_log.specs.declared.found.Cut.TheVariants.{Record}
 use Rattle.record_log.specs.Log.{CutIs}
 use Rattle.stream.specs.Buffer.{FilledUp}
@@ -12,20 +13,32 @@ use Rattle.asking.specs.declared.window.Stop.TheVariants as Stops
 -- a read failed
 abbrev pub is_unread : Result Front Stop → Bool
 is_unread (Ok front) = false
-is_unread (Err Stops.Unread) = true
-is_unread (Err (Stops.Over found)) = false
+is_unread (Err (Stops.Unread held found)) = true
+is_unread (Err (Stops.Over held found)) = false
 
--- what stands at the front of the bytes held, where no read failed: a record, or none (R14)
-abbrev pub Shows : (held : ℕ) (window : List ℕ) → Result Front Stop → Type 0
-Shows held window (Ok front) = (front.held ≡ held) × CutIs (take held window) 0 (Record front.next)
-Shows held window (Err Stops.Unread) = Unit {0}
-Shows held window (Err (Stops.Over found)) = CutIs (take held window) 0 found × is_over found
+-- how many bytes are held then
+abbrev pub held_now : Result Front Stop → ℕ
+held_now (Ok front) = front.held
+held_now (Err (Stops.Unread held found)) = held
+held_now (Err (Stops.Over held found)) = held
 
--- the window filled up behind the bytes held, and what stands at its front then (R14)
+-- what stands at their front
+abbrev pub found_now : Result Front Stop → Cut
+found_now (Ok front) = Record front.next
+found_now (Err (Stops.Unread held found)) = found
+found_now (Err (Stops.Over held found)) = found
+
+-- where no read failed, it is a record, or none
+abbrev pub Shows : Result Front Stop → Type 0
+Shows (Ok front) = Unit {0}
+Shows (Err (Stops.Unread held found)) = Unit {0}
+Shows (Err (Stops.Over held found)) = is_over found
+
+-- the window filled up behind the bytes held, and what stands at its front then, behind a failed read too (R14)
 pub record Looked (held : ℕ) (window filled : List ℕ) (r : Result Front Stop) : Type 0 where
-  pub held_now : ℕ
-  pub filled_up : FilledUp held window filled (record { held = held_now; failed = is_unread r })
-  pub shows : Shows held_now filled r
+  pub filled_up : FilledUp held window filled (record { held = held_now r; failed = is_unread r })
+  pub found : CutIs (take (held_now r) filled) 0 (found_now r)
+  pub shows : Shows r
 
 -- what was held behind the first bytes stands at the front, and is all that is held
 pub record Shifted (past held : ℕ) (window shifted : List ℕ) (left : ℕ) : Type 0 where

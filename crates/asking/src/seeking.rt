@@ -49,8 +49,8 @@ fn stopped(stop: Stop, records: u32) -> Result<Told, Unread>
     ensures { result ≡ stopped_by stop records }
 {
     match stop {
-        Stop::Unread => Err(Unread),
-        Stop::Over(found) => Ok(Told::Over { found, records }),
+        Stop::Unread { .. } => Err(Unread),
+        Stop::Over { found, .. } => Ok(Told::Over { found, records }),
     }
 }
 

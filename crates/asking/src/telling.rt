@@ -18,8 +18,8 @@ pub enum Told {
         found: Cut,
         records: u32,
     },
-    // The pool is unfit.
-    Unfit,
+    // The pool is unfit, which the explanation says.
+    Unfit(Explained),
     // The record was explained: the status of its pool, and the explanation.
     Record {
         status: Status,
@@ -35,11 +35,9 @@ pub struct Unread;
 pub fn tell(pool: &[u8], bytes: &[u8]) -> Told
     ensures { Tells pool.now bytes.now result }
 {
+    let explained = explain(pool, bytes);
     match status(pool) {
-        Ok(status) => Told::Record {
-            status,
-            explained: explain(pool, bytes),
-        },
-        Err(_) => Told::Unfit,
+        Ok(status) => Told::Record { status, explained },
+        Err(_) => Told::Unfit(explained),
     }
 }

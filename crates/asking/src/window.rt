@@ -13,11 +13,11 @@ pub struct Front {
     pub next: usize,
 }
 
-// Why there is none: a read failed, or no record stands there.
+// Why there is none: a read failed, or no record stands there. Beside either, how many bytes are held, and what stands at their front.
 #[derive(Clone, Copy)]
 pub enum Stop {
-    Unread,
-    Over(Cut),
+    Unread { held: usize, found: Cut },
+    Over { held: usize, found: Cut },
 }
 
 // Fills the window up behind the bytes held, and finds the record at its front.
@@ -27,13 +27,14 @@ pub fn look<R: Read>(log: &mut R, window: &mut [u8], held: usize) -> Result<Fron
     ensures within { IfOk result (λ front. (front.next ≤ front.held) × (front.held ≤ length window.new)) }
 {
     let filled = fill(log, window, held);
-    if filled.failed {
-        return Err(Stop::Unread);
-    }
     let held = filled.held;
-    match cut(&window[..held], 0) {
+    let found = cut(&window[..held], 0);
+    if filled.failed {
+        return Err(Stop::Unread { held, found });
+    }
+    match found {
         Cut::Record(next) => Ok(Front { held, next }),
-        found => Err(Stop::Over(found)),
+        found => Err(Stop::Over { held, found }),
     }
 }
 

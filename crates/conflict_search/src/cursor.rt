@@ -2,8 +2,6 @@
 ghost use Rattle.std.specs.Prelude.{◌≡◌, ◌+◌, ◌^◌, ◌≤◌, ◌<◌, ◌||◌, length};
 ghost use Rattle.conflict_search.specs.Cursor.{Reached, below_at};
 
-use crate::footprint::Footprint;
-
 // Where the search stands in a record's lists.
 #[derive(Clone, Copy)]
 pub struct Cursors {
@@ -32,8 +30,8 @@ pub fn below(numbers: &[u32], cursor: usize, to: u64) -> bool
 }
 
 // Whether the key or the scan at its cursor begins below `to`.
-pub fn touched(lists: &Footprint<'_>, cursors: Cursors, to: u64) -> bool
-    ensures { result ≡ below_at lists.now.keys.now cursors.point to || below_at lists.now.lows.now cursors.scan to }
+pub fn touched(keys: &[u32], lows: &[u32], cursors: Cursors, to: u64) -> bool
+    ensures { result ≡ below_at keys.now cursors.point to || below_at lows.now cursors.scan to }
 {
-    below(lists.keys, cursors.point, to) || below(lists.lows, cursors.scan, to)
+    below(keys, cursors.point, to) || below(lows, cursors.scan, to)
 }

@@ -42,7 +42,7 @@ pub fn search(pool: &[u8], i: u32, snapshot: u32, lists: &Footprint<'_>, from: C
         scan: forward(lists.highs, from.scan, n.low),
     };
     let away = Progress { cursors, ..old };
-    if !touched(lists, cursors, end_of(n.low, n.height)) {
+    if !touched(lists.keys, lists.lows, cursors, end_of(n.low, n.height)) {
         return away;
     }
     if n.height == 0 {

@@ -9,7 +9,12 @@ fn zeros(pool: &[u8]) -> bool
     requires { 64 ≤ length pool.now }
     ensures { Decides ((k : ℕ) → 28 ≤ k → k < 64 → get_or pool.now k 0 ≡ 0) result }
 {
-    pool[28..64].iter().all(|byte| *byte == 0)
+    for at in 28..64 {
+        if pool[at] != 0 {
+            return false;
+        }
+    }
+    true
 }
 
 // Whether mark, limits, length and the number of kept keys are as they should be, and the rest of the header is zero.

@@ -64,3 +64,13 @@ pub fn how_far(carry: &[u8], carried: usize, part: &[u8]) -> Begun
     }
     sized(word2(&[carry[0], part[0]], 0))
 }
+
+// Stores the part behind the bytes carried. The library's `copy_from_slice` is no choice: the archive for C would need `memmove` from outside.
+pub fn put_behind(carry: &mut [u8], carried: usize, part: &[u8])
+    requires { carried + length part.now ≤ length carry.old }
+    ensures { carry.new ≡ front (bytes_in carry.old carried part.now) carry.old }
+{
+    for i in 0..part.len() {
+        carry[carried + i] = part[i];
+    }
+}

@@ -8,7 +8,7 @@ ghost use Rattle.std.specs.Prelude.{◌≡◌, List, ℕ, ◌+◌, ◌≤◌, le
 ghost use Rattle.pages.specs.Pages.{bytes_in, undecided, refusing, FeedsAs, RecordDecided, Feeds};
 ghost use Rattle.pages.specs.Steps.{wait_row, KeepsLength, LengthIn, Complete, decided};
 
-use carry::{Begun, how_far, may_carry};
+use carry::{Begun, how_far, may_carry, put_behind};
 use fit::fit;
 use meld::melding::{Melded, meld_fit};
 use record::Answer;
@@ -39,7 +39,7 @@ fn wait(carry: &mut [u8], carried: usize, part: &[u8], over: bool) -> Fed
     ensures { (m : List ℕ) → FeedsAs (wait_row over (carried + length part.now)) m carry.old carried part.now result m carry.new }
 {
     if !over {
-        carry[carried..carried + part.len()].copy_from_slice(part);
+        put_behind(carry, carried, part);
         return undecided(Happened::More, part.len(), carried + part.len());
     }
     if carried + part.len() == 0 {
@@ -54,7 +54,7 @@ fn keep_length(carry: &mut [u8], carried: usize, part: &[u8]) -> Fed
     ensures { KeepsLength carry.old carried part.now result carry.new }
 {
     let new = 2 - carried;
-    carry[carried..2].copy_from_slice(&part[..new]);
+    put_behind(carry, carried, &part[..new]);
     undecided(Happened::Refused(Answer::IMPOSSIBLE_LENGTH), new, 2)
 }
 
@@ -82,7 +82,7 @@ fn decide(pool: &mut [u8], carry: &mut [u8], carried: usize, part: &[u8], size: 
         return verdict(meld_fit(pool, &part[..size]), size);
     }
     let new = size - carried;
-    carry[carried..size].copy_from_slice(&part[..new]);
+    put_behind(carry, carried, &part[..new]);
     verdict(meld_fit(pool, &carry[..size]), new)
 }
 

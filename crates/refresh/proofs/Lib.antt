@@ -1,3 +1,4 @@
+mod Copies
 pub mod NewSnapshot
 mod Asks
 mod Returns

@@ -106,15 +106,15 @@ module _ (m bs before : List ℕ) (bytes : Bytes bs) (a : Answer) (asked : (A : 
     pub original_long : Fit m → 3 + 4 ≤ length bs
     original_long f = omega (arith, long (state_of f.arrangement) bs before bytes (gone f.arrangement f.image))
 
-    module _ (room : length bs ≤ length before) (copied : List ℕ) (copy : copied ≡ bs) where
+    module _ (room : length bs ≤ length before) (copied : List ℕ) (copy : copied ≡ front bs before) where
       -- there is room for the snapshot
-      pub snapshot_inside : Fit m → 3 + 4 ≤ length (copied ++ drop (length bs) before)
-      snapshot_inside f = omega (arith, ap length copy, length-append copied (drop (length bs) before), original_long f)
+      pub snapshot_inside : Fit m → 3 + 4 ≤ length copied
+      snapshot_inside f = omega (arith, ap length copy, length-append bs (drop (length bs) before), original_long f)
 
       -- 0
-      pub returns_done : (h : Header) → h ≡ header_at m → (after : List ℕ) → after ≡ put_word 4 (copied ++ drop (length bs) before) 3 h.position
+      pub returns_done : (h : Header) → h ≡ header_at m → (after : List ℕ) → after ≡ put_word 4 copied 3 h.position
           → (A : Arrangement) → Image m A → refresh_outcome committed after ≡ refreshed_of (state_of A) (parse bs) before
       returns_done h eh after put A i =
           let p : h.position ≡ A.p = ap (λ (x : Header). x.position) (eh ∙ i.header) in
-          ap (refresh_outcome committed) (put ∙ ap (λ (l : List ℕ). put_word 4 (l ++ drop (length bs) before) 3 h.position) copy ∙ ap (put_word 4 (front bs before) 3) p)
+          ap (refresh_outcome committed) (put ∙ ap (λ (l : List ℕ). put_word 4 l 3 h.position) copy ∙ ap (put_word 4 (front bs before) 3) p)
           ∙ long_enough (state_of A) bs before bytes (gone A i) room

@@ -2,6 +2,7 @@
 
 // REFRESH: the same record with the pool's position as its snapshot, for a record that would not be refused here. The pool is only read.
 mod asked;
+mod front;
 
 ghost use Rattle.std.specs.Prelude.{◌≡◌};
 ghost use Rattle.record.specs.Parse.{parse};
@@ -10,6 +11,7 @@ ghost use Rattle.refresh.specs.Refreshed.{refresh_outcome, refreshed_of, Refresh
 
 use asked::asked;
 use fit::whole::fit;
+use front::copy_front;
 use nodes::read_header;
 use record::Answer;
 use words::put4;
@@ -26,7 +28,7 @@ fn refresh_fit(pool: &[u8], original: &[u8], output: &mut [u8]) -> Answer
     if output.len() < original.len() {
         return Answer::OUTPUT_SHORT;
     }
-    output[..original.len()].copy_from_slice(original);
+    copy_front(original, output);
     put4(output, 3, read_header(pool).position);
     Answer::COMMITTED
 }

@@ -1,7 +1,7 @@
 // What is printed: the answer in words, or one line of numbers.
 use crate::sentences::say_why;
 use asking::{Told, numbers_of};
-use lines::{Output, print_answer, print_ending};
+use lines::{Output, ending_answer, print_answer, print_ending};
 use meld::Status;
 use reason::Explained;
 use record::Answer;
@@ -13,7 +13,7 @@ fn print_in_numbers<P: Print>(out: &mut Output<P>, told: Told) {
     match told {
         Told::Limits { .. } => print_answer(out, Answer::BAD_LIMITS),
         Told::Over { found, .. } => print_ending(out, found),
-        Told::Unfit => print_answer(out, Answer::UNFIT_POOL),
+        Told::Unfit(explained) => print_answer(out, explained.answer),
         Told::Record { status, explained } => {
             let numbers = numbers_of(status, explained);
             out.say(format_args!("{numbers}\n"))
@@ -42,7 +42,6 @@ fn say_limits<P: Print>(out: &mut Output<P>, held: usize, n: u32, z: u32) {
 
 // Says where the log stops, so many records into it.
 fn say_torn<P: Print>(out: &mut Output<P>, records: u32) {
-    say_first(out, "log", None, Answer::TORN_LOG);
     if records == 0 {
         out.say("the log stops within its first record\n");
     } else {
@@ -52,7 +51,6 @@ fn say_torn<P: Print>(out: &mut Output<P>, records: u32) {
 
 // Says where a length stands that no record has, so many records into the log.
 fn say_impossible<P: Print>(out: &mut Output<P>, records: u32) {
-    say_first(out, "log", None, Answer::IMPOSSIBLE_LENGTH);
     if records == 0 {
         out.say("at its start");
     } else {
@@ -61,16 +59,34 @@ fn say_impossible<P: Print>(out: &mut Output<P>, records: u32) {
     out.say(" stands a length that no record has: 7 to 13,833 can be\n");
 }
 
+// Says that the log is torn, or that a length in it is impossible, by the answer for it; nothing where the log ends, which has none.
+fn say_stopped<P: Print>(out: &mut Output<P>, found: Cut, records: u32) {
+    let Some(answer) = ending_answer(found) else {
+        return;
+    };
+    say_first(out, "log", None, answer);
+    if answer == Answer::TORN_LOG {
+        say_torn(out, records);
+    } else {
+        say_impossible(out, records);
+    }
+}
+
 // Says that the pool is unfit.
-fn say_unfit<P: Print>(out: &mut Output<P>) {
-    say_first(out, "pool", None, Answer::UNFIT_POOL);
+fn say_unfit<P: Print>(out: &mut Output<P>, explained: Explained) {
+    say_first(out, "pool", None, explained.answer);
     out.say("these bytes are no pool, or a damaged one\n");
 }
 
-// Says what explaining a record's bytes has told. The record's position is the one behind the pool's, if there is one.
+// Says what explaining a record's bytes has told. The record's position is the one among its numbers, where 0 is none.
 fn say_record<P: Print>(out: &mut Output<P>, status: Status, explained: Explained, bytes: &[u8]) {
-    let position = status.position.checked_add(1);
-    say_first(out, "record", position, explained.answer);
+    let position = numbers_of(status, explained).position;
+    say_first(
+        out,
+        "record",
+        (position != 0).then_some(position),
+        explained.answer,
+    );
     say_why(out, status, explained, bytes);
 }
 
@@ -78,12 +94,8 @@ fn say_record<P: Print>(out: &mut Output<P>, status: Status, explained: Explaine
 fn say_in_words<P: Print>(out: &mut Output<P>, told: Told, bytes: &[u8]) {
     match told {
         Told::Limits { held, n, z } => say_limits(out, held, n, z),
-        Told::Over { found, records } => match found {
-            Cut::End | Cut::Record(_) => {}
-            Cut::Torn => say_torn(out, records),
-            Cut::Impossible => say_impossible(out, records),
-        },
-        Told::Unfit => say_unfit(out),
+        Told::Over { found, records } => say_stopped(out, found, records),
+        Told::Unfit(explained) => say_unfit(out, explained),
         Told::Record { status, explained } => say_record(out, status, explained, bytes),
     }
 }
@@ -101,13 +113,11 @@ pub fn print_told<P: Print, E: Print>(
     } else {
         say_in_words(out, told, bytes);
     }
-    if let Told::Over {
-        found: Cut::End,
-        records,
-    } = told
-    {
-        complaints.say(format_args!(
-            "explain: no record has that position; records in the log: {records}\n"
-        ));
+    if let Told::Over { found, records } = told {
+        if ending_answer(found).is_none() {
+            complaints.say(format_args!(
+                "explain: no record has that position; records in the log: {records}\n"
+            ));
+        }
     }
 }

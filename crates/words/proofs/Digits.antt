@@ -1,17 +1,16 @@
 -- The definitions at the widths of the code, written out as the code computes them.
 -- Assumes nothing.
-use Prim.Native.Nat.{ℕ, zero, suc, ◌+◌, ◌*◌, ◌/◌, ◌%◌, ◌^◌, ◌≤◌}
+use Prim.Native.Nat.{ℕ, zero, suc, ◌+◌, ◌*◌, ◌/◌, ◌%◌, ◌^◌}
 use mathlib.Core.Path.{◌≡◌, refl, sym, ap, ◌∙◌}
-use mathlib.Core.List.{List, [], ◌∷◌, ◌++◌, append_assoc}
+use mathlib.Core.List.{List, [], ◌∷◌, ◌++◌}
 use native.Mathlib.Omega.{arith}
+use native.Mathlib.Numerals.{towards_suc}
 use native.Mathlib.Nat.{div-div-eq-div-mul, pow-suc, mul_comm}
-use borrow.Rule.Slice.PartMut.{put_mid}
-use lib.ListN.{length, get_or, take, drop}
-use Rattle.std.proofs.lemmas.List.{drop-drop}
-use Rattle.std.proofs.lemmas.List.Edits.{sets-eq}
+use lib.ListN.{get_or, set}
+use lib.Seq.{sets}
 use Rattle.std.specs.Int.{byte_at, bytes_high_first}
 use Rattle.words.specs.Word.{word, big_endian, put_word}
-use Rattle.words.specs.Laws.{word_split, length_big_endian}
+use Rattle.words.specs.Laws.{word_split, big_endian_split, sets_append, length_big_endian}
 
 start : (s : List ℕ) (at : ℕ) → get_or s (at + 0) 0 ≡ get_or s at 0
 start s at = ap (λ (i : ℕ). get_or s i 0) (omega arith)
@@ -43,9 +42,29 @@ unfolding big_endian
 bytes_are zero x = refl
 bytes_are (suc k) x = rw (bytes_last k x, bytes_are k (x / 256))
 
--- put in the place of as many, they are the number put there
-pub put_part : (k : ℕ) (s ys : List ℕ) (at x n : ℕ) → at + k ≤ length s → ys ≡ bytes_high_first k x → n ≡ k → put_mid at n s ys ≡ put_word k s at x
+-- stored one behind the other, they are the number put there
+pub put_2 : (s ys : List ℕ) (at x : ℕ) → ys ≡ bytes_high_first 2 x → set (set s at (get_or ys 0 0)) (at + 1) (get_or ys 1 0) ≡ put_word 2 s at x
 unfolding put_word
-put_part k s ys at x n h e f =
-    rw (e, bytes_are k x, f, drop-drop)
-    (sym (rw (sets-eq (big_endian k x) s at (omega (arith, length_big_endian k x)), length_big_endian k x) (append_assoc (take at s) (big_endian k x) (drop (at + k) s))))
+put_2 s ys at x e = rw (e, sym (bytes_are 2 x)) (simp towards_suc)
+
+pub put_4 : (s ys : List ℕ) (at x : ℕ) → ys ≡ bytes_high_first 4 x
+    → set (set (set (set s at (get_or ys 0 0)) (at + 1) (get_or ys 1 0)) (at + 2) (get_or ys 2 0)) (at + 3) (get_or ys 3 0) ≡ put_word 4 s at x
+unfolding put_word
+put_4 s ys at x e = rw (e, sym (bytes_are 4 x)) (simp towards_suc)
+
+-- and eight bytes in two halves
+low_half : (x : ℕ) → big_endian 4 (x % 4294967296) ≡ big_endian 4 x
+unfolding big_endian
+low_half x =
+    ap (λ (a : ℕ). a ∷ x % 4294967296 / 256 / 256 % 256 ∷ x % 4294967296 / 256 % 256 ∷ x % 4294967296 % 256 ∷ []) (omega arith)
+    ∙ ap (λ (a : ℕ). x / 256 / 256 / 256 % 256 ∷ a ∷ x % 4294967296 / 256 % 256 ∷ x % 4294967296 % 256 ∷ []) (omega arith)
+    ∙ ap (λ (a : ℕ). x / 256 / 256 / 256 % 256 ∷ x / 256 / 256 % 256 ∷ a ∷ x % 4294967296 % 256 ∷ []) (omega arith)
+    ∙ ap (λ (a : ℕ). x / 256 / 256 / 256 % 256 ∷ x / 256 / 256 % 256 ∷ x / 256 % 256 ∷ a ∷ []) (omega arith)
+
+pub put_8 : (s t u : List ℕ) (at x : ℕ) → t ≡ put_word 4 s at (x / 4294967296) → u ≡ put_word 4 t (at + 4) (x % 4294967296) → u ≡ put_word 8 s at x
+unfolding put_word
+put_8 s t u at x e f =
+    f ∙ rw (e, low_half x)
+    (sym (ap (λ (l : List ℕ). sets s at l) (big_endian_split 4 4 x)
+    ∙ sets_append (big_endian 4 (x / 4294967296)) (big_endian 4 x) s at
+    ∙ ap (λ (n : ℕ). sets (sets s at (big_endian 4 (x / 4294967296))) (at + n) (big_endian 4 x)) (length_big_endian 4 (x / 4294967296))))

@@ -36,7 +36,9 @@ pub fn put2(bytes: &mut [u8], at: usize, x: u32)
     requires { (at + 2 ≤ length bytes.old) × (x < 65536) }
     ensures { bytes.new ≡ put_word 2 bytes.old at x }
 {
-    bytes[at..at + 2].copy_from_slice(&(x as u16).to_be_bytes());
+    let pair = (x as u16).to_be_bytes();
+    bytes[at] = pair[0];
+    bytes[at + 1] = pair[1];
 }
 
 // Stores x in the four bytes from `at` on.
@@ -44,7 +46,11 @@ pub fn put4(bytes: &mut [u8], at: usize, x: u32)
     requires { at + 4 ≤ length bytes.old }
     ensures { bytes.new ≡ put_word 4 bytes.old at x }
 {
-    bytes[at..at + 4].copy_from_slice(&x.to_be_bytes());
+    let digits = x.to_be_bytes();
+    bytes[at] = digits[0];
+    bytes[at + 1] = digits[1];
+    bytes[at + 2] = digits[2];
+    bytes[at + 3] = digits[3];
 }
 
 // Stores x in the eight bytes from `at` on.
@@ -52,5 +58,6 @@ pub fn put8(bytes: &mut [u8], at: usize, x: u64)
     requires { at + 8 ≤ length bytes.old }
     ensures { bytes.new ≡ put_word 8 bytes.old at x }
 {
-    bytes[at..at + 8].copy_from_slice(&x.to_be_bytes());
+    put4(bytes, at, (x / 4294967296) as u32);
+    put4(bytes, at + 4, (x % 4294967296) as u32);
 }

@@ -1,5 +1,6 @@
 -- `decide` meets its contract: by what `fit` decides, and where the record lies (Deciding.antt).
 -- Assumes nothing.
+use mathlib.Core.Path.{◌∙◌}
 use native.Mathlib.Omega.{arith}
 use Rattle.pages.proofs.Stored.{front_behind}
 use Rattle.pages.proofs.Deciding.{decided_unfit, decided_in_carry}
@@ -12,4 +13,4 @@ returns-then-not-fit c = decided_unfit c.args.carry.now c.args.carried c.args.pa
 pub returns : goal.returns
 returns c =
     decided_in_carry c.args.carry.now c.args.carried c.args.part.now _ _ _ c.fit.ensures (not_from_true _ c.if-not-fit.false) c.args.size c.requires.size_is _ _
-    (omega (arith, c.requires.begun, c.requires.room)) c.requires.ends c.if-carried-eq0.false _ (front_behind _ _ _ _ _ c.requires.begun c.requires.ends c.requires.room c.copy_from_slice.ensures.after) c.meld_fit-2.ensures c.verdict-2.ensures
+    (omega (arith, c.requires.begun, c.requires.room)) c.requires.ends c.if-carried-eq0.false _ (c.put_behind.ensures ∙ front_behind _ _ _ c.args.size (omega (arith, c.requires.begun, c.requires.room)) c.requires.begun) c.meld_fit-2.ensures c.verdict-2.ensures

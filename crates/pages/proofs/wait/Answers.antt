@@ -1,19 +1,13 @@
 -- `wait` meets its contract: each return is a row of R47.
 -- Assumes nothing.
-use Prim.Native.Nat.{◌+◌, ◌-◌}
 use mathlib.Core.Path.{refl}
-use native.Mathlib.Omega.{arith}
 use borrow.Author.Tests.{eq-eqb, ne_eqb}
-use lib.ListN.{length}
-use Rattle.pages.proofs.Stored.{stored_behind}
 use Rattle.std.proofs.lemmas.Bool.{not_from_false, not_from_true}
 use Rattle.pages.proofs.wait.Goals as goal
 
 pub returns-then-not-over : goal.returns-then-not-over
 returns-then-not-over c m =
-    let k = c.args.carried + length c.args.part.now - c.args.carried in
-    let e = stored_behind c.args.carry.now c.args.carried c.args.part.now k _ (omega arith) c.copy_from_slice.ensures.after c.requires in
-    simp (not_from_false _ c.if-not-over.true) (record { said = c.undecided.ensures; pool = refl; carry_is = e })
+    simp (not_from_false _ c.if-not-over.true) (record { said = c.undecided.ensures; pool = refl; carry_is = c.put_behind.ensures })
 
 pub returns-then-carried-part-eq0 : goal.returns-then-carried-part-eq0
 returns-then-carried-part-eq0 c m =

@@ -12,7 +12,7 @@ pub returns-then-output-original : goal.returns-then-output-original
 returns-then-output-original c = returns_short _ _ c.args.output.now (lent_bytes _ c.type_inv.original) _ c.asked-answer.ensures (search rules) c.if-output-original.true
 
 pub put4-requires : goal.put4-requires
-put4-requires c = snapshot_inside _ _ _ (lent_bytes _ c.type_inv.original) _ c.asked-answer.ensures (search rules) c.if-output-original.false _ c.copy_from_slice.ensures.after c.requires
+put4-requires c = snapshot_inside _ _ _ (lent_bytes _ c.type_inv.original) _ c.asked-answer.ensures (search rules) c.if-output-original.false _ c.copy_front.ensures c.requires
 
 pub returns : goal.returns
-returns c = returns_done _ _ _ (lent_bytes _ c.type_inv.original) _ c.asked-answer.ensures (search rules) c.if-output-original.false _ c.copy_from_slice.ensures.after _ c.read_header.ensures _ c.put4.ensures
+returns c = returns_done _ _ _ (lent_bytes _ c.type_inv.original) _ c.asked-answer.ensures (search rules) c.if-output-original.false _ c.copy_front.ensures _ c.read_header.ensures _ c.put4.ensures

@@ -1,9 +1,8 @@
 -- The bytes that it stores are the number's.
 -- Assumes nothing.
-use native.Mathlib.Omega.{arith}
-use mathlib.Core.Path.{◌∙◌}
-use Rattle.words.proofs.Digits.{put_part}
+use Rattle.std.proofs.Common.{rules}
+use Rattle.words.proofs.Digits.{put_8}
 use Rattle.words.proofs.put8.Goals as goal
 
 pub returns : goal.returns
-returns c = put_part 8 _ _ _ _ _ (omega arith) (c.copy_from_slice.ensures.after ∙ c.to_be_bytes.ensures) (omega arith)
+returns c = search (put_8, rules)

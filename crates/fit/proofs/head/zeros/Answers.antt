@@ -1,11 +1,17 @@
--- `fit::head::zeros` meets its contract: what `all` finds of the part of the header is said of the whole pool (`zeros_found`).
+-- `fit::head::zeros` meets its contract: one more byte is zero, or one is not.
 -- Assumes nothing.
-use Rattle.std.proofs.Common.{◌≡◌, take, drop, rules, tests}
-use Rattle.std.proofs.lemmas.Iterator.{cases_from_all, YieldsList-from_slice}
-use Rattle.fit.proofs.HeadLaws.{zeros_found}
+use native.Mathlib.Omega.{arith}
+use Rattle.fit.proofs.HeadLaws.{decides_yes, decides_no, zeros_more}
 use Rattle.fit.proofs.head.zeros.Goals as goal
 
+pub loop-at-init : goal.loop-at-init
+loop-at-init c = λ k a b. absurd (omega arith)
+
+pub returns-then-pool-at-ne0 : goal.returns-then-pool-at-ne0
+returns-then-pool-at-ne0 c = decides_no (λ z. c.if-pool-at-ne0.true (z _ (omega arith) (omega arith)))
+
+pub loop-at-preserved : goal.loop-at-preserved
+loop-at-preserved c = zeros_more c.args.pool.now _ c.loop-at.invariant c.if-pool-at-ne0.false
+
 pub returns : goal.returns
-returns c =
-    zeros_found c.args.pool.now _ c.requires
-    (cases_from_all _ _ _ (λ x. x ≡ 0) (λ x. x ≡ 0 → ⊥) c.all.ensures.ran (YieldsList-from_slice (take 36 (drop 28 c.args.pool.now)) cc) (λ x q k. search (rules, tests)) (λ x q k. search (rules, tests)))
+returns c = decides_yes (λ k a b. c.loop-at.invariant k a (omega arith))
