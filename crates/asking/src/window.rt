@@ -44,6 +44,7 @@ pub fn shift(window: &mut [u8], past: usize, held: usize) -> usize
     requires held_in_bounds { held ≤ length window.old }
     ensures { Shifted past held window.old window.new result }
 {
-    window.copy_within(past..held, 0);
-    held - past
+    let left = held - past;
+    window.copy_within(past..past + left, 0);
+    left
 }

@@ -3,7 +3,6 @@
 use Prim.Native.Nat.{ℕ, suc, ◌+◌, ◌^◌, ◌≤◌, ◌<◌}
 use native.Mathlib.Omega.{arith}
 use mathlib.Core.Path.{◌≡◌, refl, sym, ap, subst, subst⁻¹, subst₂, ◌∙◌}
-use mathlib.Core.Logic.{◌⊎◌, inl, inr}
 use mathlib.Core.List.Memᴰ.{append_left as in_left}
 use mathlib.Core.List.Memᴰ.{append_right as in_right}
 use mathlib.Core.List.Memᴰ.{head as here}
@@ -11,9 +10,7 @@ use mathlib.Core.List.Memᴰ.{tail as there}
 use mathlib.Core.List.{List, [], ◌∷◌, Memᴰ as Mem}
 use mathlib.Core.Option.{Option, none, some}
 use lib.ListN.{length}
-use Rattle.std.specs.Prelude as Code
 use Rattle.std.specs.Prelude.{Some, None}
-use Rattle.std.specs.Option.{option_or, option_zip}
 use Rattle.std.proofs.lemmas.Option.{none-some, same_Some}
 use Rattle.nodes.specs.declared.node.Node.{Node}
 use Rattle.nodes.specs.Nodes.{base, put_node}
@@ -44,18 +41,6 @@ no_root (some U) e = absurd (none-some (number U) (sym e))
 a_root : (X : Option Plan) (k : ℕ) → root_of X ≡ Some k → (U : Plan) × (X ≡ some U) × (number U ≡ k)
 a_root none k e = absurd (none-some k e)
 a_root (some U) k e = (U, refl, same_Some (number U) k e)
-
--- two roots that make no pair: one of them is none, and the other is what is told
-no_pair : (x y : Code.Option ℕ) → option_zip x y ≡ None → ((x ≡ None) × (option_or x y ≡ y)) ⊎ ((y ≡ None) × (option_or x y ≡ x))
-no_pair None y e = inl (refl, refl)
-no_pair (Some a) None e = inr (refl, refl)
-no_pair (Some a) (Some b) e = absurd (none-some (a, b) (sym e))
-
--- two that do
-a_pair : (x y : Code.Option ℕ) (p : ℕ × ℕ) → option_zip x y ≡ Some p → (x ≡ Some p.0) × (y ≡ Some p.1)
-a_pair None y p e = absurd (none-some p e)
-a_pair (Some a) None p e = absurd (none-some p e)
-a_pair (Some a) (Some b) p e = let q = same_Some (a, b) p e in (ap (λ (z : ℕ × ℕ). Some z.0) q, ap (λ (z : ℕ × ℕ). Some z.1) q)
 
 -- a side beside which nothing is left
 join_none : (i h low : ℕ) (A : Option Plan) → join_plan i h low A none ≡ A
@@ -163,24 +148,17 @@ module _ (m : List ℕ) (n i h low : ℕ) (l r : Plan) (F : List ℕ) (q : Spot 
   right_below j s = tree_below q (there (in_right (numbers l) s))
 
   -- the left side has gone: the right side is left
-  left_gone : r1.root ≡ None → Dropped m limit (node i h low l r) F freed_too (record { root = r2.root; free = one_more })
+  pub left_gone : r1.root ≡ None → Dropped m limit (node i h low l r) F freed_too (record { root = r2.root; free = one_more })
   left_gone z =
       let a = no_root (drop_plan limit l) (sym (ap (λ (x : Left). x.root) d1.is) ∙ z) in
       rw (ap (λ (x : Left). x.root) d2.is) (gone none (drop_plan limit r) a refl (drop_plan limit r) refl refl d2.holds not_right)
 
   -- the right side has gone: the left side is left
-  right_gone : r2.root ≡ None → Dropped m limit (node i h low l r) F freed_too (record { root = r1.root; free = one_more })
+  pub right_gone : r2.root ≡ None → Dropped m limit (node i h low l r) F freed_too (record { root = r1.root; free = one_more })
   right_gone z =
       let b = no_root (drop_plan limit r) (sym (ap (λ (x : Left). x.root) d2.is) ∙ z) in
       let A = drop_plan limit l in
       rw (ap (λ (x : Left). x.root) d1.is) (gone A none refl b A (join_none i h low A) (free_none i A all_free) left_holds not_left)
-
-  -- whichever it is
-  pub side_gone : option_zip r1.root r2.root ≡ None → (root : Code.Option ℕ) → root ≡ option_or r1.root r2.root → Dropped m limit (node i h low l r) F freed_too (record { root = root; free = one_more })
-  side_gone z root e = elim (no_pair r1.root r2.root z) [
-    | inl w ↦ rw (e, w.1) (left_gone w.0)
-    | inr w ↦ rw (e, w.1) (right_gone w.0)
-  ]
 
   -- both sides stay
   module _ (U W : Plan) (a : drop_plan limit l ≡ some U) (b : drop_plan limit r ≡ some W) where
@@ -204,22 +182,22 @@ module _ (m : List ℕ) (n i h low : ℕ) (l r : Plan) (F : List ℕ) (q : Spot 
         }
 
   -- as the code tells it, by the two roots
-  module _ (left right : ℕ) (z : option_zip r1.root r2.root ≡ Some (left, right)) where
+  module _ (left right : ℕ) (a : r1.root ≡ Some left) (b : r2.root ≡ Some right) where
     left_is : (U : Plan) × (drop_plan limit l ≡ some U) × (number U ≡ left)
-    left_is = a_root (drop_plan limit l) left (sym (ap (λ (x : Left). x.root) d1.is) ∙ (a_pair r1.root r2.root (left, right) z).0)
+    left_is = a_root (drop_plan limit l) left (sym (ap (λ (x : Left). x.root) d1.is) ∙ a)
 
     right_is : (U : Plan) × (drop_plan limit r ≡ some U) × (number U ≡ right)
-    right_is = a_root (drop_plan limit r) right (sym (ap (λ (x : Left). x.root) d2.is) ∙ (a_pair r1.root r2.root (left, right) z).1)
+    right_is = a_root (drop_plan limit r) right (sym (ap (λ (x : Left). x.root) d2.is) ∙ b)
 
     -- the three nodes lie in the bytes
     pub mend_asks : (base i + 32 ≤ length m2) × (base left + 32 ≤ length m2) × (base right + 32 ≤ length m2)
     mend_asks =
-        let a = left_is in
-        let b = right_is in
-        (room_after i_below, room_after (subst (λ (j : ℕ). j < n) a.2 (root_below l left_below a.0 a.1)), room_after (subst (λ (j : ℕ). j < n) b.2 (root_below r right_below b.0 b.1)))
+        let x = left_is in
+        let y = right_is in
+        (room_after i_below, room_after (subst (λ (j : ℕ). j < n) x.2 (root_below l left_below x.0 x.1)), room_after (subst (λ (j : ℕ). j < n) y.2 (root_below r right_below y.0 y.1)))
 
     pub both_stay : Dropped m limit (node i h low l r) F (mended m2 i h low left right) (record { root = Some i; free = r2.free })
     both_stay =
-        let a = left_is in
-        let b = right_is in
-        subst₂ (λ (x y : ℕ). Dropped m limit (node i h low l r) F (mended m2 i h low x y) (record { root = Some i; free = r2.free })) a.2 b.2 (stay a.0 b.0 a.1 b.1)
+        let x = left_is in
+        let y = right_is in
+        subst₂ (λ (j k : ℕ). Dropped m limit (node i h low l r) F (mended m2 i h low j k) (record { root = Some i; free = r2.free })) x.2 y.2 (stay x.0 y.0 x.1 y.1)

@@ -9,7 +9,6 @@ use mathlib.Core.Option.{some}
 use lib.ListN.{length}
 use Rattle.std.specs.Prelude as Code
 use Rattle.std.specs.Prelude.{Some, None}
-use Rattle.std.specs.Option.{option_or, option_zip}
 use Rattle.nodes.specs.declared.node.Node.{Node}
 use Rattle.nodes.specs.Nodes.{base, node_at, put_node}
 use Rattle.nodes.specs.Mended.{mended}
@@ -26,7 +25,7 @@ use Rattle.drop.proofs.Olds.{live_stays, tombstone_old}
 use Rattle.drop.proofs.Plans.{drop_none, freed_none}
 use Rattle.drop.proofs.Roots.{as_tombstone, as_live, as_inner}
 use Rattle.drop.proofs.Spots.{tree_room, fits_in, drop_same, drop_leaf, left_spot, right_spot}
-use Rattle.drop.proofs.Dropping.{free_asks, side_gone, mend_asks, both_stay}
+use Rattle.drop.proofs.Dropping.{free_asks, left_gone, right_gone, mend_asks, both_stay}
 
 -- node i lies in the bytes
 pub ready_room : (m : List ℕ) (i : ℕ) (f : FreeNodes) → DropReady m i f → base i + 32 ≤ length m
@@ -152,23 +151,28 @@ module _ (m : List ℕ) (i limit : ℕ) (f : FreeNodes) (x : Node) (a : x ≡ no
             free_asks m g.count i o.height o.low o.left o.right g.list o.spot limit m1 r1 (one o g.beside) m2 r2 (two o g.beside)
 
         -- node i can be mended
-        pub asks_mend : DropReady m i f → (left right : ℕ) → option_zip r1.root r2.root ≡ Some (left, right)
+        pub asks_mend : DropReady m i f → (left right : ℕ) → r1.root ≡ Some left → r2.root ≡ Some right
             → (base i + 32 ≤ length m2) × (base left + 32 ≤ length m2) × (base right + 32 ≤ length m2)
-        asks_mend g left right y =
+        asks_mend g left right y z =
             let o = opened g.count g.tree g.list g.at g.spot in
-            mend_asks m g.count i o.height o.low o.left o.right g.list o.spot limit m1 r1 (one o g.beside) m2 r2 (two o g.beside) left right y
+            mend_asks m g.count i o.height o.low o.left o.right g.list o.spot limit m1 r1 (one o g.beside) m2 r2 (two o g.beside) left right y z
 
-        -- a side has gone
-        pub drop_side : option_zip r1.root r2.root ≡ None → (root : Code.Option ℕ) → root ≡ option_or r1.root r2.root → (m' : List ℕ) (f' : FreeNodes) → FreedNode m2 i r2.free m' f'
-            → Drops m i limit f m' (record { root = root; free = f' })
-        drop_side y root e m' f' g n T F at beside q =
+        -- the left side has gone
+        pub drop_left : r1.root ≡ None → (m' : List ℕ) (f' : FreeNodes) → FreedNode m2 i r2.free m' f' → Drops m i limit f m' (record { root = r2.root; free = f' })
+        drop_left y m' f' g n T F at beside q =
             let o = opened n T F at q in
-            rw o.is (after_freed g (side_gone m n i o.height o.low o.left o.right F o.spot limit m1 r1 (one o beside) m2 r2 (two o beside) y root e))
+            rw o.is (after_freed g (left_gone m n i o.height o.low o.left o.right F o.spot limit m1 r1 (one o beside) m2 r2 (two o beside) y))
+
+        -- the right side has gone
+        pub drop_right : r2.root ≡ None → (m' : List ℕ) (f' : FreeNodes) → FreedNode m2 i r2.free m' f' → Drops m i limit f m' (record { root = r1.root; free = f' })
+        drop_right y m' f' g n T F at beside q =
+            let o = opened n T F at q in
+            rw o.is (after_freed g (right_gone m n i o.height o.low o.left o.right F o.spot limit m1 r1 (one o beside) m2 r2 (two o beside) y))
 
         -- neither side has gone
-        pub drop_none_of_two : (left right : ℕ) → option_zip r1.root r2.root ≡ Some (left, right) → (m' : List ℕ) → m' ≡ mended m2 i x.height x.low left right
+        pub drop_none_of_two : (left right : ℕ) → r1.root ≡ Some left → r2.root ≡ Some right → (m' : List ℕ) → m' ≡ mended m2 i x.height x.low left right
             → Drops m i limit f m' (record { root = Some i; free = r2.free })
-        drop_none_of_two left right y m' e n T F at beside q =
+        drop_none_of_two left right y z m' e n T F at beside q =
             let o = opened n T F at q in
             let w : mended m2 i x.height x.low left right ≡ mended m2 i o.height o.low left right = ap (λ (y : Node). mended m2 i y.height y.low left right) o.word in
-            rw (o.is, e ∙ w) (both_stay m n i o.height o.low o.left o.right F o.spot limit m1 r1 (one o beside) m2 r2 (two o beside) left right y)
+            rw (o.is, e ∙ w) (both_stay m n i o.height o.low o.left o.right F o.spot limit m1 r1 (one o beside) m2 r2 (two o beside) left right y z)

@@ -66,9 +66,15 @@ fn drop_below(pool: &mut [u8], i: u32, limit: u32, free: FreeNodes) -> Left
     }
     let a = drop_below(pool, n.left, limit, free);
     let b = drop_below(pool, n.right, limit, a.free);
-    let Some((left, right)) = a.root.zip(b.root) else {
+    let Some(left) = a.root else {
         return Left {
-            root: a.root.or(b.root),
+            root: b.root,
+            free: free_node(pool, i, b.free),
+        };
+    };
+    let Some(right) = b.root else {
+        return Left {
+            root: a.root,
             free: free_node(pool, i, b.free),
         };
     };

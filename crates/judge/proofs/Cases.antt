@@ -21,7 +21,6 @@ use Rattle.pool.specs.Image.{Arrangement, Image, state_of}
 use Rattle.conflict_search.specs.declared.Searched.{Searched}
 use Rattle.conflict_search.specs.Conflict.{leaves_or, first_hit, conflict_in}
 use Rattle.conflict_search.proofs.Answer.{names_leaf, named_found}
-use Rattle.conflict_search.proofs.Hit.{no_some}
 use Rattle.judge.specs.declared.judged.Named.{Named}
 use Rattle.judge.specs.Judged.{judged, judged_of, leaf_for, named_in}
 
@@ -77,10 +76,10 @@ module _ (m : List ℕ) (s : ℕ) (f : List Scan) (h : Header) (eh : h ≡ heade
           let x : any (hits s f) (state_of A).kept ≡ true = sym (named_is A i) ∙ d in
           sym (tests A i ∙ rw x)
 
-      pub is_free : is_some w.leaf ≡ false → (A : Arrangement) → Image m A → named committed w.looks w.leaf ≡ named_in A s f
+      pub is_free : is_some w.leaf ≡ false → (A : Arrangement) → Image m A → named committed w.looks None ≡ named_in A s f
       is_free d A i =
           let x : any (hits s f) (state_of A).kept ≡ false = sym (named_is A i) ∙ d in
-          sym (tests A i ∙ rw (x, no_some w.leaf d))
+          sym (tests A i ∙ rw x)
 
 -- WITHOUT THE LEAF
 

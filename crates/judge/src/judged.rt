@@ -46,14 +46,21 @@ pub fn judge_and_name(pool: &[u8], snapshot: u32, lists: &Footprint<'_>) -> Name
         return refused(Answer::TOO_OLD);
     }
     let Searched { leaf, looks } = conflict(pool, snapshot, lists);
-    let answer = if leaf.is_some() {
-        Answer::CONFLICT
-    } else {
-        Answer::COMMITTED
-    };
+    if leaf.is_some() {
+        return Named {
+            judged: Judged {
+                answer: Answer::CONFLICT,
+                looks,
+            },
+            leaf,
+        };
+    }
     Named {
-        judged: Judged { answer, looks },
-        leaf,
+        judged: Judged {
+            answer: Answer::COMMITTED,
+            looks,
+        },
+        leaf: None,
     }
 }
 

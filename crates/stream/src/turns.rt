@@ -31,7 +31,8 @@ pub fn meld_through<R: Read, P: Print>(
         if read.failed {
             return Ending::Unread;
         }
-        if read.held == 0 {
+        let over = read.held == 0;
+        if over {
             break;
         }
     }

@@ -14,6 +14,7 @@ returns c =
     record {
       moved =
           ap (take left) c.copy_within.ensures.after
+          ∙ ap (λ (n : ℕ). take left (copy_within window past n 0)) (omega arith)
           ∙ ap (λ (n : ℕ). take n (copy_within window past c.args.held 0)) (sym (zero-add left))
           ∙ take-paste window 0 (drop past window) left (omega arith) (omega (arith, length-drop past window))
           ∙ sym (drop-take past left window)

@@ -12,5 +12,5 @@ returns-then-h-snapshot-2 c A i = c.refused-then-h-snapshot-2.ensures ∙ is_too
 pub returns-then-is_some : goal.returns-then-is_some
 returns-then-is_some c = is_conflict _ _ _ _ c.read_header-h.ensures c.if-h-snapshot.false c.if-h-snapshot-2.false _ c.conflict-leaf.ensures (sym c.is_some.ensures ∙ c.if-is_some.true)
 
-pub returns-else-is_some : goal.returns-else-is_some
-returns-else-is_some c = is_free _ _ _ _ c.read_header-h.ensures c.if-h-snapshot.false c.if-h-snapshot-2.false _ c.conflict-leaf.ensures (sym c.is_some.ensures ∙ c.if-is_some.false)
+pub returns : goal.returns
+returns c = is_free _ _ _ _ c.read_header-h.ensures c.if-h-snapshot.false c.if-h-snapshot-2.false _ c.conflict-leaf.ensures (sym c.is_some.ensures ∙ c.if-is_some.false)

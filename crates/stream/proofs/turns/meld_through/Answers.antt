@@ -3,7 +3,7 @@
 use Rattle.std.proofs.Common.{refl, arith, rules}
 use Rattle.stream.proofs.Turning.{over_at, turned_none, used_up, turn_stops, turn_unread, turn_over, turn_on}
 use Rattle.stream.proofs.turns.meld_through.Goals as goal
-use Rattle.stream.proofs.turns.meld_through.Goals.{else-loop-test, then-loop-test+else-going+else-read+then-read-eq0}
+use Rattle.stream.proofs.turns.meld_through.Goals.{else-loop-test, then-loop-test+else-going+else-read+then-over}
 
 pub loop-init : goal.loop-init
 loop-init g c = (turned_none _ _ _, refl, refl, refl)
@@ -15,12 +15,12 @@ pub returns-then-read : goal.returns-then-read
 returns-then-read g c = turn_unread c.loop.invariant.0 c.refill-read.ensures c.feed_part-going.ensures c.if-going.false c.if-read.true
 
 pub loop-preserved : goal.loop-preserved
-loop-preserved g c = (turn_on c.loop.invariant.0 c.refill-read.ensures c.feed_part-going.ensures c.if-going.false c.if-read.false c.if-read-eq0.false, search rules, search rules, search rules)
+loop-preserved g c = (turn_on c.loop.invariant.0 c.refill-read.ensures c.feed_part-going.ensures c.if-going.false c.if-read.false c.if-over.false, search rules, search rules, search rules)
 
 pub returns : goal.returns
 returns g c = elim c.loop-test.branch [
   | else-loop-test w ↦ used_up c.loop.invariant.0 (omega arith) (over_at w.pool-is w.carry-is w.carried-is c.finish.ensures)
-  | then-loop-test+else-going+else-read+then-read-eq0 w ↦
-      turn_over c.loop.invariant.0 w.refill-read.ensures w.feed_part-going.ensures w.if-going.false w.if-read.false w.if-read-eq0.true
+  | then-loop-test+else-going+else-read+then-over w ↦
+      turn_over c.loop.invariant.0 w.refill-read.ensures w.feed_part-going.ensures w.if-going.false w.if-read.false w.if-over.true
       (over_at w.pool-is w.carry-is w.carried-is c.finish.ensures)
 ]
