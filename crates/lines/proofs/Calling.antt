@@ -103,6 +103,20 @@ module _ {part : List ℕ} {position : ℕ} {m carry : List ℕ} {carried place 
             position_is = counted here (t ∙ ap (λ (x : Happened). on_by here (length (verdict_in x r.looks))) (sym e));
           }
 
+-- what was said where no record was decided: where the log goes on, that more is wanted
+pub wants_more : (h : Happened) → ((a : Answer) → h ≡ Decided a → ⊥) → goes_on_by h ≡ true → h ≡ More
+wants_more (Decided a) none g = absurd (none a refl)
+wants_more (Refused a) none g = absurd (true≢false (sym g))
+wants_more More none g = refl
+wants_more End none g = absurd (true≢false (sym g))
+
+-- where it does not, a refusal or that the log is at its end
+pub is_over : (h : Happened) → ((a : Answer) → h ≡ Decided a → ⊥) → goes_on_by h ≡ false → ((a : Answer) × (h ≡ Refused a)) ⊎ (h ≡ End)
+is_over (Decided a) none g = absurd (none a refl)
+is_over (Refused a) none g = inl (a, refl)
+is_over More none g = absurd (true≢false g)
+is_over End none g = inr refl
+
 -- nothing is left of the part
 pub ends : {part : List ℕ} {position : ℕ} {m carry : List ℕ} {carried place : ℕ} {m' carry' : List ℕ} {carried' here : ℕ}
     → SoFar part position m carry carried place m' carry' carried' here → length part ≤ place

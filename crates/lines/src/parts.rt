@@ -1,5 +1,6 @@
 // A log fed part by part, with a line for each record decided.
-ghost use Rattle.lines.specs.Parts.{PartFed, Finishes};
+ghost use Rattle.std.specs.Prelude.{◌≡◌};
+ghost use Rattle.lines.specs.Parts.{goes_on_by, PartFed, Finishes};
 
 use crate::output::Output;
 use crate::printing::{Line, print_line};
@@ -15,6 +16,18 @@ pub struct Going {
     pub carried: usize,
     pub position: u64,
     pub stopped: bool,
+}
+
+// Whether the log goes on behind what a call has said.
+fn goes_on(happened: Happened) -> bool
+    ensures { result ≡ goes_on_by happened }
+{
+    match happened {
+        Happened::Decided(_) => true,
+        Happened::Refused(_) => false,
+        Happened::More => true,
+        Happened::End => false,
+    }
 }
 
 // Feeds a part, and what a call has not taken of it again, until nothing is left of it or a call says that the log does not go on. It prints a
@@ -37,26 +50,23 @@ pub fn feed_part<P: Print>(
         let fed = feed(pool, carry, carried, &part[place..], false);
         carried = fed.carried;
         place += fed.taken;
-        match fed.happened {
-            Happened::Decided(answer) => {
-                print_line(
-                    out,
-                    Line {
-                        position,
-                        answer,
-                        looks: fed.looks,
-                    },
-                );
-                position = position.wrapping_add(1);
-            }
-            Happened::More => {}
-            Happened::Refused(_) | Happened::End => {
-                return Going {
-                    carried,
+        if let Happened::Decided(answer) = fed.happened {
+            print_line(
+                out,
+                Line {
                     position,
-                    stopped: true,
-                };
-            }
+                    answer,
+                    looks: fed.looks,
+                },
+            );
+            position = position.wrapping_add(1);
+        }
+        if !goes_on(fed.happened) {
+            return Going {
+                carried,
+                position,
+                stopped: true,
+            };
         }
     }
     Going {

@@ -1,6 +1,7 @@
 -- The turns of the program, one after the other: what the loop that makes them knows when a turn begins, and how it closes.
 -- Assumes nothing.
-use Rattle.std.proofs.Common.{◌≡◌, ℕ, ◌+◌, true, false, not, Result, Ok, Err, List, [], ◌∷◌, ◌++◌, length, take, sym, refl, ap, ◌∙◌, subst, true≢false, arith, length-append, eq-eqb, ne_eqb}
+use Rattle.std.proofs.Common.{◌≡◌, ℕ, ◌+◌, Bool, true, false, not, eqb, Result, Ok, Err, List, [], ◌∷◌, ◌++◌, length, take, sym, refl, ap, ◌∙◌, subst, true≢false, arith, length-append, eq-eqb, ne_eqb}
+use Rattle.std.proofs.lemmas.Bool.{eqb-true, not-false}
 use Rattle.std.specs.declared.io.Error.{Error}
 use Rattle.record_log.specs.declared.found.Cut.{Cut}
 use Rattle.record_log.specs.declared.found.Cut.TheVariants.{Impossible}
@@ -20,6 +21,24 @@ failed_empty {page} {read = read} f e = by_answer f.got f.told
     by_answer : (got : Result ℕ Error) → read ≡ filled_by got 0 (length page) → read.held ≡ 0
     by_answer (Ok n) is = absurd (true≢false (sym e ∙ ap (λ (x : Filled). x.failed) is))
     by_answer (Err x) is = ap (λ (y : Filled). y.held) is
+
+-- where another page may follow, the log goes on, the read did not fail, and the page is not empty
+pub follows : {page page' : List ℕ} {read : Filled} → Refilled 0 page page' read → (stopped : Bool) → more_by read.held stopped ≡ true
+    → (stopped ≡ false) × (read.failed ≡ false) × (read.held ≡ 0 → ⊥)
+follows {read = read} f true more = absurd (true≢false (sym more))
+follows {read = read} f false more = (refl, by_flag read.failed refl, some)
+  where
+    some : read.held ≡ 0 → ⊥
+    some z = true≢false (sym more ∙ ap not (eq-eqb read.held 0 z))
+
+    by_flag : (b : Bool) → read.failed ≡ b → read.failed ≡ false
+    by_flag true e = absurd (some (failed_empty f e))
+    by_flag false e = e
+
+-- where none may and the log goes on, the page is empty
+pub last : (held : ℕ) (stopped : Bool) → more_by held stopped ≡ false → stopped ≡ false → held ≡ 0
+last held true none e = absurd (true≢false e)
+last held false none e = eqb-true held 0 (not-false (eqb held 0) none)
 
 -- the log is over at the pool, the carry and what is carried then
 pub over_at : {m m₁ carry carry₁ : List ℕ} {carried carried₁ : ℕ} → m₁ ≡ m → carry₁ ≡ carry → carried₁ ≡ carried → {after carry₂ : List ℕ} {found : Cut}

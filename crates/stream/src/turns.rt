@@ -1,11 +1,22 @@
 // The log of an input, fed page by page: a page is what one read brings.
-ghost use Rattle.stream.specs.Turns.{Streamed};
+ghost use Rattle.std.specs.Prelude.{◌≡◌};
+ghost use Rattle.stream.specs.Turns.{more_by, Streamed};
 
 use crate::closing::Ending;
 use crate::input::refill;
 use lines::{Output, feed_part, finish};
 use record_log::Cut;
 use std::io::{Print, Read};
+
+// Whether another page may follow one of so many bytes: not behind an empty one, nor where the log does not go on.
+fn more_after(held: usize, stopped: bool) -> bool
+    ensures { result ≡ more_by held stopped }
+{
+    if stopped {
+        return false;
+    }
+    held != 0
+}
 
 // Feeds the log of an input, from where it stands, page by page, and answers how it ends, or that a read failed. A length that cannot be
 // ends it at once; no page follows an empty one. A proved loop has to end, so it makes no more turns than a number that no run uses up.
@@ -25,16 +36,16 @@ pub fn meld_through<R: Read, P: Print>(
         let going = feed_part(out, pool, carry, carried, &page[..read.held], position);
         carried = going.carried;
         position = going.position;
+        if more_after(read.held, going.stopped) {
+            continue;
+        }
         if going.stopped {
             return Ending::Log(Cut::Impossible);
         }
         if read.failed {
             return Ending::Unread;
         }
-        let over = read.held == 0;
-        if over {
-            break;
-        }
+        break;
     }
     Ending::Log(finish(pool, carry, carried))
 }
