@@ -184,7 +184,7 @@ module _ {N Z : ℕ} {lent m : List ℕ} (made : Created lent N Z committed m) w
           let r = rest_look (passed_rest s.passed) l in
           let log : List ℕ = s.brought ++ brought_by l in
           let same : other ≡ found = cc in
-          let over : is_over found = subst is_over same l.shows in
+          let over : is_over found = subst is_over same l.shows.1 in
           let at : cut_at log r.place ≡ found =
           over_behind log r.place r.inside found over (ap (λ (x : List ℕ). cut_at x 0) r.rest ∙ sym (cut_case _ 0 _ l.found) ∙ same) in
           let many : s.records ≡ records = cc in

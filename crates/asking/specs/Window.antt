@@ -28,17 +28,17 @@ found_now (Ok front) = Record front.next
 found_now (Err (Stops.Unread held found)) = found
 found_now (Err (Stops.Over held found)) = found
 
--- where no read failed, it is a record, or none
-abbrev pub Shows : Result Front Stop → Type 0
-Shows (Ok front) = Unit {0}
-Shows (Err (Stops.Unread held found)) = Unit {0}
-Shows (Err (Stops.Over held found)) = is_over found
+-- what stands at the front of the bytes held, where no read failed: a record, or none (R14)
+abbrev pub Shows : (held : ℕ) (window : List ℕ) → Result Front Stop → Type 0
+Shows held window (Ok front) = (front.held ≡ held) × CutIs (take held window) 0 (Record front.next)
+Shows held window (Err (Stops.Unread held' found)) = Unit {0}
+Shows held window (Err (Stops.Over held' found)) = CutIs (take held window) 0 found × is_over found
 
 -- the window filled up behind the bytes held, and what stands at its front then, behind a failed read too (R14)
 pub record Looked (held : ℕ) (window filled : List ℕ) (r : Result Front Stop) : Type 0 where
   pub filled_up : FilledUp held window filled (record { held = held_now r; failed = is_unread r })
   pub found : CutIs (take (held_now r) filled) 0 (found_now r)
-  pub shows : Shows r
+  pub shows : Shows (held_now r) filled r
 
 -- what was held behind the first bytes stands at the front, and is all that is held
 pub record Shifted (past held : ℕ) (window shifted : List ℕ) (left : ℕ) : Type 0 where
